@@ -1,0 +1,3 @@
+mod Comparing
+pub mod Numbers
+pub mod Writing

@@ -1,0 +1,57 @@
+-- What a write into a part of a memory leaves.
+use mathlib.Core.Path.{_≡_, refl, sym, ap, _∙_}
+use mathlib.Core.List.{_++_, map}
+use Prim.Native.Nat.{ℕ, _+_, _<_, _≤_}
+use native.Mathlib.Nat.{zero-add}
+use native.Mathlib.Omega.{arith}
+use lib.ListN.{length, take, drop, getD}
+use borrow.Rule.Slice.PartMut.{putMid}
+use Rattle.std.specs.Iters.{counting}
+use Rattle.std.proofs.shelf.Counted.{fill-by-all}
+use Rattle.std.proofs.shelf.Lists.{append-assoc, drop-drop, drop-at, take-at, length-append, length-drop, length-take-le}
+use Rattle.octets.specs.Octets.{Octets, part, written, begins}
+
+-- the checker's word for a write to the part that begins at a place is ours
+pub putMid-written : (at k : ℕ) (old xs : Octets) → k ≡ length xs → putMid at k old xs ≡ written at xs old
+putMid-written at k old xs e =
+    ap (λ rest. take at old ++ (xs ++ rest)) (drop-drop k at old ∙ ap (λ n. drop (at + n) old) e)
+
+pub length-written : (at : ℕ) (xs old : Octets) → at + length xs ≤ length old → length (written at xs old) ≡ length old
+length-written at xs old room =
+    let front = length-take-le at old (omega arith) in
+    let back = length-drop (at + length xs) old in
+    let both = length-append xs (drop (at + length xs) old) in
+    length-append (take at old) (xs ++ drop (at + length xs) old) ∙ omega arith
+
+-- what was written is read back
+pub part-written : (at : ℕ) (xs old : Octets) → at ≤ length old → part at (length xs) (written at xs old) ≡ xs
+part-written at xs old inside =
+    ap (take (length xs)) (drop-at (take at old) (xs ++ drop (at + length xs) old) at (length-take-le at old inside))
+    ∙ take-at xs (drop (at + length xs) old) (length xs) refl
+
+pub length-part : (at n : ℕ) (xs : Octets) → at + n ≤ length xs → length (part at n xs) ≡ n
+length-part at n xs room = length-take-le n (drop at xs) (omega (arith, length-drop at xs))
+
+-- a write at the start, and one that goes on where the last ended
+pub written-start : (xs old : Octets) → written 0 xs old ≡ begins xs old
+written-start xs old = ap (λ n. xs ++ drop n old) (zero-add (length xs))
+
+pub written-next : (at : ℕ) (xs ys old : Octets) → length xs ≡ at → written at ys (begins xs old) ≡ begins (xs ++ ys) old
+written-next at xs ys old e =
+    let rest = drop (length xs) old in
+    let front : take at (begins xs old) ≡ xs = take-at xs rest at e in
+    let back : drop (at + length ys) (begins xs old) ≡ drop (length (xs ++ ys)) old =
+    sym (drop-drop (length ys) at (begins xs old))
+    ∙ ap (drop (length ys)) (drop-at xs rest at e)
+    ∙ drop-drop (length ys) (length xs) old
+    ∙ ap (λ n. drop n old) (sym (length-append xs ys)) in
+    ap (λ t. t ++ (ys ++ drop (at + length ys) (begins xs old))) front
+    ∙ ap (λ t. xs ++ (ys ++ t)) back
+    ∙ sym (append-assoc xs ys (drop (length (xs ++ ys)) old))
+
+pub length-begins : (xs old : Octets) → length xs ≤ length old → length (begins xs old) ≡ length old
+length-begins xs old room = let back = length-drop (length xs) old in length-append xs (drop (length xs) old) ∙ omega arith
+
+-- a list of n octets, spelled out
+pub spelled : (n : ℕ) (xs : Octets) → length xs ≡ n → xs ≡ map (λ i. getD xs i 0) (counting 0 n)
+spelled n xs e = fill-by-all (λ i. getD xs i 0) xs n 0 e (λ k h. refl)
