@@ -1,3 +1,4 @@
 mod Comparing
 pub mod Numbers
+pub mod Words
 pub mod Writing

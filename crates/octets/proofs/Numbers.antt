@@ -4,7 +4,7 @@ use mathlib.Core.List.{[], _∷_, reverse, reverseAux}
 use Prim.Native.Nat.{ℕ, zero, suc, _+_, _*_, _/_, _%_, _^_, _<_}
 use native.Mathlib.Nat.{pow-suc}
 use native.Mathlib.Omega.{arith}
-use lib.ListN.{length}
+use lib.ListN.{length, getD}
 use Rattle.std.proofs.shelf.Lists.{length-reverse, reverse-reverse}
 use Rattle.octets.specs.Octets.{Octets, Are-octets, little, big, little-octets, big-octets}
 
@@ -15,6 +15,12 @@ length-little-octets (suc n) v = ap suc (length-little-octets n (v / 256))
 pub are-octets-little : (n v : ℕ) → Are-octets (little-octets n v)
 are-octets-little zero v = tt
 are-octets-little (suc n) v = (omega arith, are-octets-little n (v / 256))
+
+-- an octet of a list; past its end a read gives 0
+pub octet-at : (xs : Octets) (i : ℕ) → Are-octets xs → getD xs i 0 < 256
+octet-at [] i all = omega arith
+octet-at (x ∷ xs) zero all = all .0
+octet-at (x ∷ xs) (suc i) all = octet-at xs i (all .1)
 
 -- a number is read back from as many octets as it has
 pub little-from-octets : (n v : ℕ) → v < 256 ^ n → little (little-octets n v) ≡ v

@@ -49,6 +49,26 @@ written-next at xs ys old e =
     ∙ ap (λ t. xs ++ (ys ++ t)) back
     ∙ sym (append-assoc xs ys (drop (length (xs ++ ys)) old))
 
+-- what stands behind the first octets of a memory, and other octets written over it
+module _ (at : ℕ) (xs ys old : Octets) (e : length xs ≡ at) where
+  behind : drop at (begins (xs ++ ys) old) ≡ ys ++ drop (length (xs ++ ys)) old
+  behind = ap (drop at) (append-assoc xs ys (drop (length (xs ++ ys)) old)) ∙ drop-at xs (ys ++ drop (length (xs ++ ys)) old) at e
+
+  pub part-behind : part at (length ys) (begins (xs ++ ys) old) ≡ ys
+  part-behind = ap (take (length ys)) behind ∙ take-at ys (drop (length (xs ++ ys)) old) (length ys) refl
+
+  pub written-over : (zs : Octets) → length zs ≡ length ys → written at zs (begins (xs ++ ys) old) ≡ begins (xs ++ zs) old
+  written-over zs same =
+      let rest = drop (length (xs ++ ys)) old in
+      let first = length-append xs ys in
+      let second = length-append xs zs in
+      let front : take at (begins (xs ++ ys) old) ≡ xs = ap (take at) (append-assoc xs ys rest) ∙ take-at xs (ys ++ rest) at e in
+      let back : drop (at + length zs) (begins (xs ++ ys) old) ≡ drop (length (xs ++ zs)) old =
+      drop-at (xs ++ ys) rest (at + length zs) (omega arith) ∙ ap (λ n. drop n old) (omega arith) in
+      ap (λ t. t ++ (zs ++ drop (at + length zs) (begins (xs ++ ys) old))) front
+      ∙ ap (λ t. xs ++ (zs ++ t)) back
+      ∙ sym (append-assoc xs zs (drop (length (xs ++ zs)) old))
+
 pub length-begins : (xs old : Octets) → length xs ≤ length old → length (begins xs old) ≡ length old
 length-begins xs old room = let back = length-drop (length xs) old in length-append xs (drop (length xs) old) ∙ omega arith
 

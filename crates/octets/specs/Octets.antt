@@ -1,6 +1,7 @@
 -- Octets in memory: which numbers they are, and what a write leaves.
 use mathlib.Core.List.{List, [], _∷_, _++_, reverse}
 use Prim.Native.Nat.{ℕ, zero, suc, _+_, _*_, _/_, _%_, _<_}
+use lib.Bits.{bitXor}
 use lib.ListN.{length, take, drop}
 use Rattle.std.specs.shelf.Lists.{All}
 
@@ -26,6 +27,12 @@ little-octets (suc n) v = (v % 256) ∷ little-octets n (v / 256)
 
 abbrev pub big-octets : ℕ → ℕ → Octets
 big-octets n v = reverse (little-octets n v)
+
+-- the exclusive or of two lists, octet by octet, as far as both go
+abbrev pub xored : Octets → Octets → Octets
+xored [] ys = []
+xored (x ∷ xs) [] = []
+xored (x ∷ xs) (y ∷ ys) = bitXor x y ∷ xored xs ys
 
 -- the n octets of a memory that stand at a place
 abbrev pub part : ℕ → ℕ → Octets → Octets

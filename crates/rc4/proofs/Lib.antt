@@ -1,0 +1,3 @@
+pub mod Covering
+pub mod Stream
+pub mod Tables

@@ -1,0 +1,14 @@
+// Published vectors, run: a line for each, with its name and `ok` or `WRONG`.
+mod aes_cases;
+mod stream_cases;
+
+use std::io;
+
+fn verdict(right: bool) -> &'static str {
+    if right { "ok" } else { "WRONG" }
+}
+
+fn main(rt: LibcRuntime) -> io::Result<()> {
+    stream_cases::run(&rt)?;
+    aes_cases::run(&rt)
+}
