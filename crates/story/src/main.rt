@@ -1,8 +1,10 @@
 // The story: what takes place on the link, told in plain words.
+mod sealing;
 mod telling;
 
 use frame::Address;
 use frame::Header;
+use sealing::sealing_story;
 use std::error::AnyError;
 use telling::tell_header;
 use telling::tell_octets;
@@ -50,6 +52,12 @@ fn header_story(rt: &LibcRuntime) -> Result<(), AnyError> {
     tell_read(rt, &beacon)
 }
 
+fn story(rt: &LibcRuntime) -> Result<(), AnyError> {
+    header_story(rt)?;
+    println!(rt, "")?;
+    sealing_story(rt, &WHOLE_MESSAGE.octets())
+}
+
 fn main(rt: LibcRuntime) -> Result<(), AnyError> {
-    rt.report(header_story(&rt))
+    rt.report(story(&rt))
 }

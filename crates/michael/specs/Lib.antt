@@ -1,0 +1,2 @@
+pub mod Michael
+pub mod Stages

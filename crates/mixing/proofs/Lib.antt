@@ -1,0 +1,4 @@
+mod Rule
+mod Chain
+mod Laying
+pub mod Keys

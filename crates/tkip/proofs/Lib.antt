@@ -1,0 +1,3 @@
+mod Lawful
+mod Opening
+mod Sealing
