@@ -1,113 +1,46 @@
-/* AES-128 in plain C by the same way: four tables of 256 words, words throughout, the S-box for the last round. */
-#include <stdint.h>
-#include <string.h>
+/* Blocks of AES-128 in plain C: one, chained, under a counter, and both. */
+#include "aes128.h"
 
-static uint8_t S[256];
-static uint32_t T[4][256];
+void peer_aes_tables(void) { aes_tables(); }
 
-static uint8_t twice(uint8_t a) { return (uint8_t)(a << 1 ^ (a >> 7) * 0x1b); }
-static uint32_t turned(uint32_t w, int k) { return w << k | w >> (32 - k); }
-
-/* The tables, from the powers of 3, which run through all octets but 0. */
-void peer_aes_tables(void) {
-    uint8_t power[256], place[256] = {0};
-    uint8_t a = 1;
-    for (int i = 0; i < 255; i++) { power[i] = a; place[a] = (uint8_t)i; a ^= twice(a); }
-    for (int n = 0; n < 256; n++) {
-        uint8_t v = n == 0 ? 0 : power[(255 - place[n]) % 255];
-        uint8_t s = v;
-        for (int k = 1; k < 5; k++) s ^= (uint8_t)(v << k | v >> (8 - k));
-        s ^= 0x63;
-        S[n] = s;
-        uint32_t w = twice(s) | (uint32_t)s << 8 | (uint32_t)s << 16 | (uint32_t)(uint8_t)(twice(s) ^ s) << 24;
-        T[0][n] = w;
-        T[1][n] = turned(w, 8);
-        T[2][n] = turned(w, 16);
-        T[3][n] = turned(w, 24);
-    }
-}
-
-static void expand(uint32_t k[44], const uint8_t key[16]) {
-    memcpy(k, key, 16);
-    uint8_t x = 1;
-    for (int i = 4; i < 44; i += 4) {
-        uint32_t d = k[i - 1];
-        uint32_t t = S[d >> 8 & 255] | (uint32_t)S[d >> 16 & 255] << 8 | (uint32_t)S[d >> 24] << 16 | (uint32_t)S[d & 255] << 24;
-        k[i] = k[i - 4] ^ t ^ x;
-        k[i + 1] = k[i - 3] ^ k[i];
-        k[i + 2] = k[i - 2] ^ k[i + 1];
-        k[i + 3] = k[i - 1] ^ k[i + 2];
-        x = twice(x);
-    }
-}
-
-#define COLUMN(a, b, c, d, k) (T[0][(a) & 255] ^ T[1][(b) >> 8 & 255] ^ T[2][(c) >> 16 & 255] ^ T[3][(d) >> 24] ^ (k))
-#define LAST(a, b, c, d, k) ((S[(a) & 255] | (uint32_t)S[(b) >> 8 & 255] << 8 | (uint32_t)S[(c) >> 16 & 255] << 16 | (uint32_t)S[(d) >> 24] << 24) ^ (k))
-
-static inline void encrypt(const uint32_t k[44], uint32_t s[4]) {
-    uint32_t a = s[0] ^ k[0], b = s[1] ^ k[1], c = s[2] ^ k[2], d = s[3] ^ k[3];
-    for (int r = 4; r < 40; r += 4) {
-        uint32_t e = COLUMN(a, b, c, d, k[r]);
-        uint32_t f = COLUMN(b, c, d, a, k[r + 1]);
-        uint32_t g = COLUMN(c, d, a, b, k[r + 2]);
-        uint32_t h = COLUMN(d, a, b, c, k[r + 3]);
-        a = e; b = f; c = g; d = h;
-    }
-    s[0] = LAST(a, b, c, d, k[40]);
-    s[1] = LAST(b, c, d, a, k[41]);
-    s[2] = LAST(c, d, a, b, k[42]);
-    s[3] = LAST(d, a, b, c, k[43]);
-}
-
-void peer_aes_block(const uint8_t key[16], uint8_t block[16]) {
-    uint32_t k[44], s[4];
+void peer_aes_block(const uint8_t key[16], uint8_t out[16]) {
+    uint32_t k[44];
     expand(k, key);
-    memcpy(s, block, 16);
-    encrypt(k, s);
-    memcpy(block, s, 16);
+    store(out, encrypt(k, load(out)));
 }
 
-void peer_aes_chain(const uint8_t key[16], uint8_t block[16], uint64_t n) {
-    uint32_t k[44], s[4];
+void peer_aes_chain(const uint8_t key[16], uint8_t out[16], uint64_t n) {
+    uint32_t k[44];
     expand(k, key);
-    memcpy(s, block, 16);
-    while (n--) encrypt(k, s);
-    memcpy(block, s, 16);
+    block s = load(out);
+    while (n--) s = encrypt(k, s);
+    store(out, s);
 }
 
-void peer_aes_counter(const uint8_t key[16], uint8_t block[16], uint64_t n) {
-    uint32_t k[44], sum[4], s[4];
+/* The next counter, of 128 bits. */
+static void count(uint64_t counter[2]) {
+    if (++counter[0] == 0) counter[1]++;
+}
+
+void peer_aes_counter(const uint8_t key[16], uint8_t out[16], uint64_t n) {
+    uint32_t k[44];
     uint64_t counter[2];
     expand(k, key);
-    memcpy(counter, block, 16);
-    memcpy(sum, block, 16);
-    while (n--) {
-        memcpy(s, counter, 16);
-        encrypt(k, s);
-        for (int j = 0; j < 4; j++) sum[j] ^= s[j];
-        if (++counter[0] == 0) counter[1]++;
-    }
-    memcpy(block, sum, 16);
+    memcpy(counter, out, 16);
+    block total = load(out);
+    for (; n > 0; n--, count(counter)) total = sum(total, encrypt(k, load((uint8_t *)counter)));
+    store(out, total);
 }
 
-void peer_aes_pair(const uint8_t key[16], uint8_t block[16], uint64_t n) {
-    uint32_t k[44], start[4], chained[4], sum[4], s[4];
+void peer_aes_pair(const uint8_t key[16], uint8_t out[16], uint64_t n) {
+    uint32_t k[44];
     uint64_t counter[2];
     expand(k, key);
-    memcpy(start, block, 16);
-    memcpy(chained, block, 16);
-    memcpy(counter, block, 16);
-    memcpy(sum, block, 16);
-    for (n /= 2; n > 0; n--) {
-        encrypt(k, chained);
-        memcpy(s, counter, 16);
-        encrypt(k, s);
-        for (int j = 0; j < 4; j++) {
-            chained[j] ^= start[j];
-            sum[j] ^= s[j];
-        }
-        if (++counter[0] == 0) counter[1]++;
+    memcpy(counter, out, 16);
+    block start = load(out), chained = start, total = start;
+    for (n /= 2; n > 0; n--, count(counter)) {
+        chained = sum(encrypt(k, chained), start);
+        total = sum(total, encrypt(k, load((uint8_t *)counter)));
     }
-    for (int j = 0; j < 4; j++) sum[j] ^= chained[j];
-    memcpy(block, sum, 16);
+    store(out, sum(chained, total));
 }

@@ -6,7 +6,8 @@ ghost use Rattle.crc32.specs.Crc32.{crc32};
 ghost use Rattle.rc4.specs.Rc4.{covered};
 
 pub mod blocks;
-pub mod frames;
+pub mod ccmp_frames;
+pub mod tkip_frames;
 
 #[unsafe(no_mangle)]
 pub extern "C" fn rattle_crc32(octets: &[u8]) -> u32

@@ -1,12 +1,13 @@
 -- Numbers in octets: as long as asked, made of octets, and read back as they were written, in both orders.
 use mathlib.Core.Path.{_≡_, refl, sym, ap, subst, _∙_}
-use mathlib.Core.List.{[], _∷_, reverse, reverseAux}
+use mathlib.Core.List.{[], _∷_, _++_, reverse, reverseAux}
 use Prim.Native.Nat.{ℕ, zero, suc, _+_, _*_, _/_, _%_, _^_, _<_}
 use native.Mathlib.Nat.{pow-suc}
 use native.Mathlib.Omega.{arith}
-use lib.ListN.{length, getD}
+use lib.ListN.{length, drop, getD}
+use Rattle.std.proofs.shelf.Elements.{all-append, all-take, all-drop}
 use Rattle.std.proofs.shelf.Lists.{length-reverse, reverse-reverse}
-use Rattle.octets.specs.Octets.{Octets, Are-octets, little, big, little-octets, big-octets}
+use Rattle.octets.specs.Octets.{Octets, Are-octets, part, little, big, little-octets, big-octets}
 
 pub length-little-octets : (n v : ℕ) → length (little-octets n v) ≡ n
 length-little-octets zero v = refl
@@ -21,6 +22,12 @@ pub octet-at : (xs : Octets) (i : ℕ) → Are-octets xs → getD xs i 0 < 256
 octet-at [] i all = omega arith
 octet-at (x ∷ xs) zero all = all .0
 octet-at (x ∷ xs) (suc i) all = octet-at xs i (all .1)
+
+pub are-octets-append : (xs ys : Octets) → Are-octets xs → Are-octets ys → Are-octets (xs ++ ys)
+are-octets-append xs ys p q = all-append (λ x. x < 256) xs ys p q
+
+pub are-octets-part : (at n : ℕ) (xs : Octets) → Are-octets xs → Are-octets (part at n xs)
+are-octets-part at n xs all = all-take (λ x. x < 256) n (drop at xs) (all-drop (λ x. x < 256) at xs all)
 
 -- a number is read back from as many octets as it has
 pub little-from-octets : (n v : ℕ) → v < 256 ^ n → little (little-octets n v) ≡ v

@@ -1,14 +1,14 @@
 -- What a write into a part of a memory leaves.
 use mathlib.Core.Path.{_≡_, refl, sym, ap, _∙_}
 use mathlib.Core.List.{_++_, map}
-use Prim.Native.Nat.{ℕ, _+_, _<_, _≤_}
+use Prim.Native.Nat.{ℕ, _+_, _-_, _<_, _≤_}
 use native.Mathlib.Nat.{zero-add}
 use native.Mathlib.Omega.{arith}
 use lib.ListN.{length, take, drop, getD}
 use borrow.Rule.Slice.PartMut.{putMid}
 use Rattle.std.specs.Iters.{counting}
 use Rattle.std.proofs.shelf.Counted.{fill-by-all}
-use Rattle.std.proofs.shelf.Lists.{append-assoc, drop-drop, drop-at, take-at, length-append, length-drop, length-take-le}
+use Rattle.std.proofs.shelf.Lists.{append-assoc, append-nil, drop-all, take-rest, drop-drop, drop-at, take-at, length-append, length-drop, length-take-le}
 use Rattle.octets.specs.Octets.{Octets, part, written, begins}
 
 -- the checker's word for a write to the part that begins at a place is ours
@@ -75,3 +75,25 @@ length-begins xs old room = let back = length-drop (length xs) old in length-app
 -- a list of n octets, spelled out
 pub spelled : (n : ℕ) (xs : Octets) → length xs ≡ n → xs ≡ map (λ i. getD xs i 0) (counting 0 n)
 spelled n xs e = fill-by-all (λ i. getD xs i 0) xs n 0 e (λ k h. refl)
+
+-- one write more, where the last ended
+pub begun-more : (done ys old before after all : Octets) (a : ℕ) → length done ≡ a → done ++ ys ≡ all → before ≡ begins done old → after ≡ written a ys before → after ≡ begins all old
+begun-more done ys old before after all a long joined was now =
+    now ∙ ap (written a ys) was ∙ written-next a done ys old long ∙ ap (λ l. begins l old) joined
+
+-- a write to all of a memory from a place on
+putMid-rest : (n : ℕ) (memory xs : Octets) → putMid n (length memory - n) memory xs ≡ take n memory ++ xs
+putMid-rest n memory xs =
+    let none = drop-all (length memory - n) (drop n memory) (omega (arith, length-drop n memory)) in
+    ap (λ l. take n memory ++ (xs ++ l)) none ∙ ap (λ l. take n memory ++ l) (append-nil xs)
+
+-- octets at the start of a memory, and then others at the start of the part that begins behind them
+pub written-after : (n : ℕ) (first next old one rest : Octets) → length first ≡ n → one ≡ written 0 first old → rest ≡ begins next (take (length one - n) (drop n one)) → putMid n (length one - n) one rest ≡ begins (first ++ next) old
+written-after n first next old one rest long was is =
+    let start = was ∙ written-start first old in
+    let front : take n one ≡ first = ap (take n) start ∙ take-at first (drop (length first) old) n long in
+    let back : take (length one - n) (drop n one) ≡ drop (length first) old = take-rest one n ∙ ap (drop n) start ∙ drop-at first (drop (length first) old) n long in
+    let all : rest ≡ next ++ drop (length (first ++ next)) old = is
+    ∙ ap (λ l. next ++ drop (length next) l) back
+    ∙ ap (λ l. next ++ l) (drop-drop (length next) (length first) old ∙ ap (λ k. drop k old) (sym (length-append first next))) in
+    putMid-rest n one rest ∙ (λ i. front i ++ all i) ∙ sym (append-assoc first next (drop (length (first ++ next)) old))

@@ -1,9 +1,11 @@
 // The story: what takes place on the link, told in plain words.
+mod newer;
 mod sealing;
 mod telling;
 
 use frame::Address;
 use frame::Header;
+use newer::newer_story;
 use sealing::sealing_story;
 use std::error::AnyError;
 use telling::tell_header;
@@ -55,7 +57,10 @@ fn header_story(rt: &LibcRuntime) -> Result<(), AnyError> {
 fn story(rt: &LibcRuntime) -> Result<(), AnyError> {
     header_story(rt)?;
     println!(rt, "")?;
-    sealing_story(rt, &WHOLE_MESSAGE.octets())
+    let header = WHOLE_MESSAGE.octets();
+    sealing_story(rt, &header)?;
+    println!(rt, "")?;
+    newer_story(rt, &header)
 }
 
 fn main(rt: LibcRuntime) -> Result<(), AnyError> {

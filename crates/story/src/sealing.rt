@@ -12,7 +12,7 @@ use suite::Suite;
 use tkip::Tkip;
 use tkip::TkipSuite;
 
-const READING: &[u8; 18] = b"spring 12: 4.7 l/s";
+pub const READING: &[u8; 18] = b"spring 12: 4.7 l/s";
 
 // Temporal key, code key from the base, code key from the logger.
 const KEY: &[u8; 32] = b"temporal key 16.fr.base.fr.loggr";
@@ -56,7 +56,12 @@ fn tell_message(rt: &LibcRuntime, whole: &[u8]) -> Result<(), AnyError> {
         println!(rt, "  the code does not agree")?;
         return Ok(());
     }
-    print!(rt, "  the code agrees, and the reading is: ")?;
+    tell_text(rt, "the code agrees", message)
+}
+
+// A reading, with why it is believed.
+pub fn tell_text(rt: &LibcRuntime, why: &str, message: &[u8]) -> Result<(), AnyError> {
+    print!(rt, "  {why}, and the reading is: ")?;
     for octet in message {
         print!(rt, "{}", *octet as char)?;
     }

@@ -1,5 +1,6 @@
 // Published vectors, run: a line for each, with its name and `ok` or `WRONG`.
 mod aes_cases;
+mod ccmp_cases;
 mod michael_cases;
 mod mixing_cases;
 mod stream_cases;
@@ -16,5 +17,6 @@ fn main(rt: LibcRuntime) -> io::Result<()> {
     aes_cases::run(&rt)?;
     michael_cases::run(&rt)?;
     mixing_cases::run(&rt)?;
-    tkip_cases::run(&rt)
+    tkip_cases::run(&rt)?;
+    ccmp_cases::run(&rt)
 }

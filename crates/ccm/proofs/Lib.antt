@@ -1,0 +1,10 @@
+mod Everywhere
+pub mod Additional
+pub mod Blocks
+pub mod Cipher
+pub mod Covering
+pub mod Exact
+pub mod Finishing
+pub mod Kept
+pub mod Stream
+pub mod Words
