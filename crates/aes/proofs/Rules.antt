@@ -8,7 +8,7 @@ use lib.Dec.{T, eqb, eqb→eq}
 use lib.ListN.{length, getD}
 use Rattle.std.specs.shelf.Text.{sameBytes}
 use Rattle.std.proofs.shelf.Equals.{sameBytes-decides}
-use Rattle.sbox.proofs.Table.{every, at}
+use Rattle.octets.proofs.Tables.{every, at}
 use Rattle.aes.specs.Aes.{rcon}
 use Rattle.aes.specs.Words.{quad, mixes}
 

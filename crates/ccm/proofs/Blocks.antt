@@ -9,12 +9,12 @@ use lib.Seq.{take-append-add}
 use Rattle.std.specs.Iters.{counting}
 use Rattle.std.proofs.shelf.Counted.{map-counting-more}
 use Rattle.std.proofs.shelf.Lists.{length-drop, take-append-le, drop-append-le, take-replicate, drop-replicate}
-use Rattle.octets.specs.Octets.{Octets, part}
-use Rattle.octets.specs.Octets.{xored}
+use Rattle.octets.specs.Octets.{Octets, part, xored}
 use Rattle.aes.specs.Words.{octets}
 use Rattle.ccm.specs.Ccm.{block-of, chained, cbc-mac}
 use Rattle.ccm.specs.Inner.{filled}
-use Rattle.ccm.proofs.Words.{octets-xor, zeros-added}
+use Rattle.aes.proofs.Quads.{octets-xor}
+use Rattle.ccm.proofs.Words.{zeros-added}
 
 pub block-whole : (xs : Octets) (i : ℕ) → 16 * i + 16 ≤ length xs → block-of xs i ≡ part (16 * i) 16 xs
 unfolding block-of

@@ -10,12 +10,11 @@ use lib.ListN.{length, getD}
 use Rattle.std.specs.Iters.{counting}
 use Rattle.std.specs.shelf.Lists.{All}
 use Rattle.std.proofs.shelf.Elements.{all-map, all-weaker}
-use Rattle.octets.specs.Octets.{Octets, Are-octets}
+use Rattle.octets.specs.Octets.{Octets, Are-octets, xored}
 use Rattle.ccm.proofs.Everywhere.{all-of}
 use Rattle.octets.proofs.Numbers.{octet-at, are-octets-append}
 use Rattle.sbox.specs.Field.{xtime, thrice, times, product, power, inverse, turned, affine, sub}
-use Rattle.sbox.proofs.Table.{both, both-left, both-right, every, at-octet}
-use Rattle.octets.specs.Octets.{xored}
+use Rattle.octets.proofs.Tables.{both, both-left, both-right, every, at-octet}
 use Rattle.aes.specs.Aes.{at, subBytes, shiftRows, mixColumn, mixedAt, mixColumns, addRoundKey, wordAt, turnedWord, rcon, nextKey, roundKey, expanded, round, lastRound, rounds, encrypted, aes128}
 use Rattle.aes.specs.Words.{roundKeys}
 use Rattle.aes.specs.declared.Aes128.{Aes128}

@@ -10,15 +10,14 @@ use lib.ListN.{length, take, drop}
 use lib.Seq.{take-add}
 use Rattle.std.specs.Iters.{counting}
 use Rattle.std.proofs.shelf.Lists.{length-drop, length-take-le, take-all, take-at, take-append-drop}
-use Rattle.octets.specs.Octets.{Octets, part, written, begins}
+use Rattle.octets.specs.Octets.{Octets, part, written, begins, xored}
 use Rattle.octets.proofs.Writing.{begun-more}
-use Rattle.octets.specs.Octets.{xored}
 use Rattle.aes.specs.Words.{octets}
 use Rattle.ccm.specs.Ccm.{block-of, blocks, count-blocks, counter-block, chained, covered}
 use Rattle.ccm.specs.Inner.{Whole-blocks, filled, plain}
 use Rattle.ccm.proofs.Blocks.{chained-more}
 use Rattle.ccm.proofs.Stream.{length-covered, covered-part}
-use Rattle.ccm.proofs.Words.{octets-xor}
+use Rattle.aes.proofs.Quads.{octets-xor}
 use Rattle.octets.proofs.Words.{take-xored, length-xored}
 
 -- a number that is not 0 says that a text is opened

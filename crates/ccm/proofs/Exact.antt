@@ -9,8 +9,7 @@ use Rattle.std.specs.declared.option.Option.the-variants.{Some, None}
 use Rattle.std.specs.shelf.Text.{sameBytes}
 use Rattle.std.proofs.shelf.Equals.{sameBytes-decides}
 use Rattle.std.proofs.shelf.Lists.{length-append, length-take-le, take-at, drop-at, take-append-drop}
-use Rattle.octets.specs.Octets.{Octets}
-use Rattle.octets.specs.Octets.{xored}
+use Rattle.octets.specs.Octets.{Octets, xored}
 use Rattle.ccm.specs.Ccm.{authentication-blocks, counter-block, chained, cbc-mac, covered, uncovered, ccm-tail, ccm-seal, ccm-open, Opens-exactly}
 use Rattle.ccm.specs.Inner.{Whole-blocks}
 use Rattle.ccm.proofs.Stream.{length-covered, covered-twice}

@@ -8,9 +8,8 @@ use lib.ListN.{length, take, drop, replicate}
 use Rattle.std.specs.declared.option.Option.the-variants.{Some, None}
 use Rattle.std.specs.shelf.Text.{sameBytes}
 use Rattle.std.proofs.shelf.Lists.{length-replicate, length-take-le, take-at, take-rest, drop-at}
-use Rattle.octets.specs.Octets.{Octets, written, begins}
+use Rattle.octets.specs.Octets.{Octets, written, begins, xored}
 use Rattle.octets.proofs.Writing.{begun-more}
-use Rattle.octets.specs.Octets.{xored}
 use Rattle.ccm.specs.Ccm.{numbered, first-flags, measured, blocks, counter-block, chained, cbc-mac, covered, uncovered, ccm-tail, ccm-seal, ccm-open}
 use Rattle.ccm.specs.Inner.{Whole-blocks}
 use Rattle.ccm.proofs.Blocks.{chained-append}

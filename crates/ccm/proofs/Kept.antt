@@ -10,11 +10,9 @@ use Rattle.std.specs.Iters.{counting}
 use Rattle.std.specs.declared.option.Option.the-variants.{Some}
 use Rattle.std.specs.shelf.Lists.{All}
 use Rattle.std.proofs.shelf.Elements.{all-append, all-map, all-take}
-use Rattle.octets.specs.Octets.{Octets, Are-octets, big-octets}
+use Rattle.octets.specs.Octets.{Octets, Are-octets, big-octets, xored}
 use Rattle.ccm.proofs.Everywhere.{all-of}
-use Rattle.octets.proofs.Numbers.{are-octets-append, are-octets-part}
-use Rattle.octets.proofs.Numbers.{are-octets-big}
-use Rattle.octets.specs.Octets.{xored}
+use Rattle.octets.proofs.Numbers.{are-octets-append, are-octets-part, are-octets-big}
 use Rattle.ccm.specs.Ccm.{block-of, blocks, count-blocks, numbered, first-flags, measured, authentication-blocks, counter-block, chained, cbc-mac, covered, ccm-tail, ccm-seal, ccm-open}
 use Rattle.ccm.proofs.Exact.{opened-is}
 use Rattle.ccm.proofs.Stream.{are-octets-covered}

@@ -8,8 +8,7 @@ use lib.ListN.{length, take, drop}
 use Rattle.std.proofs.shelf.Elements.{all-append}
 use Rattle.std.proofs.shelf.Lists.{length-append, length-drop, take-all, drop-at, take-append-le, drop-append-le}
 use Rattle.std.proofs.shelf.Tests.{cases-lt}
-use Rattle.octets.specs.Octets.{Octets, Are-octets, part}
-use Rattle.octets.specs.Octets.{xored}
+use Rattle.octets.specs.Octets.{Octets, Are-octets, part, xored}
 use Rattle.ccm.specs.Ccm.{counter-block, count-blocks, stream, covered}
 use Rattle.ccm.specs.Inner.{Whole-blocks}
 use Rattle.octets.proofs.Words.{take-xored, drop-xored, length-xored, xored-twice, are-octets-xored}

@@ -3,31 +3,14 @@ use mathlib.Core.List.{[], _∷_, _++_}
 use mathlib.Core.Path.{_≡_, refl, sym, ap, _∙_}
 use Prim.Native.Nat.{ℕ, suc, _+_, _*_, _/_, _%_, _^_, _<_}
 use native.Mathlib.Omega.{arith}
-use lib.Bits.{bitXor, xor-shr, xor-mod}
+use lib.Bits.{bitXor}
 use lib.ListN.{length, getD, take, replicate}
 use Rattle.std.proofs.shelf.Bits.{shl-shr}
-use Rattle.octets.specs.Octets.{Octets, big-octets}
-use Rattle.octets.specs.Octets.{xored}
+use Rattle.octets.specs.Octets.{Octets, big-octets, xored}
 use Rattle.aes.specs.Words.{quad, octets}
+use Rattle.aes.proofs.Quads.{octets-xor}
 use Rattle.ccm.specs.Ccm.{counter-block}
 use Rattle.octets.proofs.Words.{xored-append, xored-zeros, zeros-xored}
-
-octet-xor : (x y k : ℕ) → bitXor x y / 2 ^ k % 256 ≡ bitXor (x / 2 ^ k % 256) (y / 2 ^ k % 256)
-octet-xor x y k = ap (λ w. w % 256) (xor-shr x y k) ∙ xor-mod (x / 2 ^ k) (y / 2 ^ k) 8
-
-quad-xor : (x y : ℕ) → quad (bitXor x y) ≡ xored (quad x) (quad y)
-quad-xor x y = λ i. xor-mod x y 8 i ∷ octet-xor x y 8 i ∷ octet-xor x y 16 i ∷ octet-xor x y 24 i ∷ []
-
--- column k of a sum, by the place of its lowest bit
-column-xor : (x y k : ℕ) → quad (bitXor x y / 2 ^ k % 2 ^ 32) ≡ xored (quad (x / 2 ^ k % 2 ^ 32)) (quad (y / 2 ^ k % 2 ^ 32))
-column-xor x y k =
-    ap (λ w. quad (w % 2 ^ 32)) (xor-shr x y k) ∙ ap quad (xor-mod (x / 2 ^ k) (y / 2 ^ k) 32) ∙ quad-xor (x / 2 ^ k % 2 ^ 32) (y / 2 ^ k % 2 ^ 32)
-
-pub octets-xor : (x y : ℕ) → octets (bitXor x y) ≡ xored (octets x) (octets y)
-unfolding octets
-octets-xor x y =
-    let first = ap quad (xor-mod x y 32) ∙ quad-xor (x % 2 ^ 32) (y % 2 ^ 32) in
-    λ i. first i ++ column-xor x y 32 i ++ column-xor x y 64 i ++ column-xor x y 96 i
 
 pub length-octets : (x : ℕ) → length (octets x) ≡ 16
 unfolding octets

@@ -10,8 +10,7 @@ use Rattle.std.specs.Iters.{counting}
 use Rattle.std.specs.declared.option.Option.{Option}
 use Rattle.std.specs.declared.option.Option.the-variants.{Some, None}
 use Rattle.std.specs.shelf.Text.{sameBytes}
-use Rattle.octets.specs.Octets.{Octets, big-octets, part, begins}
-use Rattle.octets.specs.Octets.{xored}
+use Rattle.octets.specs.Octets.{Octets, big-octets, part, begins, xored}
 
 -- block i of octets, which zeros follow
 unfoldable pub block-of : Octets → ℕ → Octets

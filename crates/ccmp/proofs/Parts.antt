@@ -6,8 +6,7 @@ use native.Mathlib.Omega.{arith}
 use lib.Bits.{bitAnd, and-le-r, or-lt}
 use lib.ListN.{length, getD, set, replicate}
 use Rattle.octets.specs.Octets.{Octets, Are-octets, little, little-octets, big-octets, part, written}
-use Rattle.octets.proofs.Numbers.{are-octets-append, are-octets-part}
-use Rattle.octets.proofs.Numbers.{are-octets-little, are-octets-big, little-below, little-from-octets}
+use Rattle.octets.proofs.Numbers.{are-octets-append, are-octets-part, are-octets-little, are-octets-big, little-below, little-from-octets}
 use Rattle.octets.proofs.Writing.{spelled, length-part}
 use Rattle.ccmp.specs.Ccmp.{ccmp-nonce, ccmp-additional, head-octets, counter-in}
 

@@ -11,20 +11,9 @@ use lib.ListN.{length, getD}
 use Rattle.std.specs.Iters.{counting}
 use Rattle.std.proofs.shelf.Counted.{getD-counting, length-counting}
 use Rattle.std.proofs.shelf.Lists.{getD-append-left, getD-append-right}
+use Rattle.octets.proofs.Tables.{both, both-left, both-right}
 use Rattle.crc32.specs.Crc32.{steps}
 use Rattle.crc32.proofs.Division.{steps-more}
-
-abbrev both : Bool → Bool → Bool
-both true b = b
-both false b = false
-
-both-left : (a b : Bool) → T (both a b) → T a
-both-left true b t = tt
-both-left false b t = t
-
-both-right : (a b : Bool) → T (both a b) → T b
-both-right true b t = t
-both-right false b t = absurd t
 
 -- each entry of xs is what eight steps make of the entry of ys at its place
 abbrev pub follows : List ℕ → List ℕ → Bool

@@ -7,7 +7,7 @@ use lib.ListN.{length, take, drop, getD, replicate}
 use Rattle.std.specs.Iters.{counting}
 use Rattle.std.proofs.shelf.Lists.{append-assoc, drop-drop, length-append, length-drop, length-replicate}
 use Rattle.octets.specs.Octets.{Octets, Are-octets, little, little-octets, part}
-use Rattle.octets.proofs.Numbers.{are-octets-little}
+use Rattle.octets.proofs.Numbers.{are-octets-append, are-octets-little}
 use Rattle.octets.proofs.Writing.{spelled}
 use Rattle.frame.specs.declared.addresses.Address.{Address}
 use Rattle.michael.specs.declared.blocks.State.{State}
@@ -106,11 +106,6 @@ counted-words d s p m ld ls =
     let long = length-append (heading d s p) m in
     length-padded-words (heading d s p ++ m) ∙ omega arith
 
-are-octets-append : (xs ys : Octets) → Are-octets xs → Are-octets ys → Are-octets (xs ++ ys)
-are-octets-append [] ys first next = next
-are-octets-append (x ∷ xs) ys first next = (first .0, are-octets-append xs ys (first .1) next)
-
--- the code is eight octets
 pub length-michael : (key m : Octets) → length (michael key m) ≡ 8
 unfolding code-octets
 length-michael key m = refl

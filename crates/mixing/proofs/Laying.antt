@@ -7,7 +7,7 @@ use native.Mathlib.Omega.{arith}
 use lib.ListN.{length, take, drop, getD, replicate}
 use Rattle.std.proofs.shelf.Lists.{append-assoc, append-nil, length-append, length-take-le, take-append-drop, take-more, take-all}
 use Rattle.octets.specs.Octets.{Octets, little-octets, written, begins}
-use Rattle.octets.proofs.Writing.{written-start, written-next}
+use Rattle.octets.proofs.Writing.{written-start, written-next, written-on}
 use Rattle.mixing.specs.Mixing.{octets-of}
 
 pub length-octets-of : (ws : List ℕ) → length (octets-of ws) ≡ 2 * length ws
@@ -17,23 +17,6 @@ length-octets-of (w ∷ ws) = let rest = length-octets-of ws in omega arith
 octets-of-push : (ws : List ℕ) (w : ℕ) → octets-of (ws ++ (w ∷ [])) ≡ octets-of ws ++ little-octets 2 w
 octets-of-push [] w = refl
 octets-of-push (v ∷ ws) w = ap (λ rest. little-octets 2 v ++ rest) (octets-of-push ws w)
-
-module _ (at : ℕ) (xs old : Octets) (inside : at ≤ length old) where
-  length-front : length (take at old ++ xs) ≡ at + length xs
-  length-front = let front = length-take-le at old inside in length-append (take at old) xs ∙ omega arith
-
-  -- a write in the middle, as one at the start
-  written-begins : written at xs old ≡ begins (take at old ++ xs) old
-  written-begins =
-      sym (append-assoc (take at old) xs (drop (at + length xs) old)) ∙ sym (ap (λ n. (take at old ++ xs) ++ drop n old) length-front)
-
--- a write that goes on where the last ended
-pub written-on : (at : ℕ) (xs ys old : Octets) → at ≤ length old → written (at + length xs) ys (written at xs old) ≡ written at (xs ++ ys) old
-written-on at xs ys old inside =
-    ap (written (at + length xs) ys) (written-begins at xs old inside)
-    ∙ written-next (at + length xs) (take at old ++ xs) ys old (length-front at xs old inside)
-    ∙ ap (λ front. begins front old) (append-assoc (take at old) xs ys)
-    ∙ sym (written-begins at (xs ++ ys) old inside)
 
 -- the first n words stand in the memory
 abbrev pub Laid : ℕ → List ℕ → Octets → ℕ → Octets → Type 0

@@ -5,7 +5,7 @@ use mathlib.Core.Path.{_≡_}
 use Prim.Native.Nat.{ℕ, _<_}
 use lib.Dec.{T, eqb, eqb→eq}
 use lib.ListN.{length, getD}
-use Rattle.sbox.proofs.Table.{every, at}
+use Rattle.octets.proofs.Tables.{every, at}
 use Rattle.mixing.specs.Mixing.{table-entry}
 
 unfoldable pub right : ℕ → ℕ → Bool

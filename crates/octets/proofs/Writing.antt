@@ -76,7 +76,24 @@ length-begins xs old room = let back = length-drop (length xs) old in length-app
 pub spelled : (n : ℕ) (xs : Octets) → length xs ≡ n → xs ≡ map (λ i. getD xs i 0) (counting 0 n)
 spelled n xs e = fill-by-all (λ i. getD xs i 0) xs n 0 e (λ k h. refl)
 
--- one write more, where the last ended
+module _ (at : ℕ) (xs old : Octets) (inside : at ≤ length old) where
+  length-front : length (take at old ++ xs) ≡ at + length xs
+  length-front = let front = length-take-le at old inside in length-append (take at old) xs ∙ omega arith
+
+  -- a write in the middle, as one at the start
+  written-begins : written at xs old ≡ begins (take at old ++ xs) old
+  written-begins =
+      sym (append-assoc (take at old) xs (drop (at + length xs) old)) ∙ sym (ap (λ n. (take at old ++ xs) ++ drop n old) length-front)
+
+-- a write that goes on where the last ended
+pub written-on : (at : ℕ) (xs ys old : Octets) → at ≤ length old → written (at + length xs) ys (written at xs old) ≡ written at (xs ++ ys) old
+written-on at xs ys old inside =
+    ap (written (at + length xs) ys) (written-begins at xs old inside)
+    ∙ written-next (at + length xs) (take at old ++ xs) ys old (length-front at xs old inside)
+    ∙ ap (λ front. begins front old) (append-assoc (take at old) xs ys)
+    ∙ sym (written-begins at (xs ++ ys) old inside)
+
+-- one write more to the start of a memory, where the last ended
 pub begun-more : (done ys old before after all : Octets) (a : ℕ) → length done ≡ a → done ++ ys ≡ all → before ≡ begins done old → after ≡ written a ys before → after ≡ begins all old
 begun-more done ys old before after all a long joined was now =
     now ∙ ap (written a ys) was ∙ written-next a done ys old long ∙ ap (λ l. begins l old) joined

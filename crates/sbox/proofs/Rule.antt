@@ -8,7 +8,7 @@ use lib.Dec.{T, eqb, ltb, eqb→eq, ltb→lt}
 use lib.ListN.{length, getD}
 use Rattle.std.specs.Iters.{counting}
 use Rattle.sbox.specs.Field.{xtime, times, product, power, inverse, Inverts, sub}
-use Rattle.sbox.proofs.Table.{both, both-left, both-right, every, at, at-octet}
+use Rattle.octets.proofs.Tables.{both, both-left, both-right, every, at, at-octet}
 
 unfoldable pub right : ℕ → ℕ → Bool
 right k x = eqb x (sub k)

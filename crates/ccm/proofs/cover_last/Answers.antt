@@ -3,15 +3,14 @@ use Prim.Native.Nat.{_+_, _-_, _*_, _/_, _<_, _≤_}
 use native.Mathlib.Omega.{arith}
 use lib.ListN.{length, take, drop}
 use Rattle.std.proofs.shelf.Lists.{take-rest}
-use Rattle.octets.specs.Octets.{written}
-use Rattle.octets.specs.Octets.{xored}
+use Rattle.octets.specs.Octets.{written, xored}
 use Rattle.aes.specs.Words.{octets}
 use Rattle.ccm.specs.Ccm.{block-of, covered}
 use Rattle.ccm.specs.Inner.{under, filled, plain}
 use Rattle.ccm.proofs.Blocks.{block-last}
 use Rattle.ccm.proofs.Covering.{opens, opened-plain, sealed-plain, covered-rest}
 use Rattle.ccm.proofs.Stream.{length-covered}
-use Rattle.ccm.proofs.Words.{octets-xor}
+use Rattle.aes.proofs.Quads.{octets-xor}
 use Rattle.ccm.proofs.cover_last.Needs as need
 use Rattle.ccm.proofs.cover_last.Needs.{then-this-ne0, else-this-ne0}
 

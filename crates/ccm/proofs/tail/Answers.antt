@@ -4,7 +4,8 @@ use lib.ListN.{take}
 use Rattle.octets.specs.Octets.{xored}
 use Rattle.aes.specs.Words.{octets}
 use Rattle.ccm.specs.Inner.{under}
-use Rattle.ccm.proofs.Words.{octets-xor, eight}
+use Rattle.aes.proofs.Quads.{octets-xor}
+use Rattle.ccm.proofs.Words.{eight}
 use Rattle.ccm.proofs.tail.Needs as need
 
 pub returns : need.returns
