@@ -1,5 +1,7 @@
 // What stands before and behind the opening of a frame: whether it is for this end, which place it is for, and what a
 // failed code does. None of this depends on a suite's functions.
+#![tactic(auto)]
+
 pub mod admitting;
 pub mod failing;
 pub mod matching;

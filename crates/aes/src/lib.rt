@@ -1,6 +1,8 @@
 // AES-128: the key expansion and the encryption of blocks, by words and T-tables.
 // The definition stands in specs/Aes.antt. A block is sixteen octets, or the word of 128 bits that they make, the first of
 // them least significant.
+#![tactic(auto)]
+
 ghost use Rattle.std.specs.Prelude.{◌≡◌, ◌<◌, [], length, slice_index_or};
 ghost use Rattle.aes.specs.Aes.{rcon, next_key, expanded, encrypted, aes128};
 ghost use Rattle.aes.specs.Words.{octets, held, round_keys};

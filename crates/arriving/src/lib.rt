@@ -1,4 +1,6 @@
 // What becomes of a frame that was admitted, over its suite.
+#![tactic(auto)]
+
 pub mod arrivals;
 pub mod completing;
 pub mod incoming;

@@ -1,4 +1,6 @@
 // What the benchmark calls from C; a slice is passed as its address and its length.
+#![tactic(auto)]
+
 ghost use Rattle.std.specs.Prelude.{◌≡◌, ◌≤◌, length};
 ghost use Rattle.crc32.specs.Crc32.{crc32};
 ghost use Rattle.rc4.specs.Rc4.{covered};

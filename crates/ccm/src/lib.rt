@@ -1,5 +1,7 @@
 // CCM over AES-128, with a tail of 8 octets and a length field of 2. The definition stands in specs/Ccm.antt.
 // The expanded key is made once for a message. Blocks are held as words of 128 bits, the first octet least significant.
+#![tactic(auto)]
+
 ghost use Rattle.std.specs.Prelude.{◌≡◌, ◌+◌, ◌-◌, ◌*◌, ◌/◌, ◌<◌, ◌≤◌, ◌∷◌, length, take, drop, is_some};
 ghost use Rattle.octets.specs.Octets.{Octets, written, begins, xored};
 ghost use Rattle.aes.specs.Aes.{aes128};

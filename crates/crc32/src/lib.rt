@@ -1,4 +1,6 @@
 // CRC-32 by tables, eight octets at a time.
+#![tactic(auto)]
+
 ghost use Rattle.std.specs.Prelude.{◌≡◌};
 ghost use Rattle.std.specs.List.{flat_map};
 ghost use Rattle.crc32.specs.Crc32.{steps, taken, remainder, crc32, check_octets};

@@ -1,4 +1,6 @@
 // What a link end holds, what it is asked and what it answers; and, in specs/, what each call decides and leaves.
+#![tactic(auto)]
+
 pub mod answers;
 pub mod places;
 pub mod refusals;

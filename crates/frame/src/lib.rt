@@ -1,4 +1,6 @@
 // The frames of the link: addresses and the header of 24 octets.
+#![tactic(auto)]
+
 pub mod addresses;
 pub mod headers;
 

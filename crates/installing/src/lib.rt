@@ -1,4 +1,6 @@
 // Make, install and remove, over what an end holds.
+#![tactic(auto)]
+
 ghost use Rattle.std.specs.Prelude.{◌≡◌, ◌≤◌, true, length, Some, None, OnOk};
 ghost use Rattle.ends.specs.Places.{exists};
 ghost use Rattle.ends.specs.Holding.{held, with_place};

@@ -1,4 +1,6 @@
 // The laws that hold over whole runs of a link end, whichever two suites it stands over.
+#![tactic(auto)]
+
 ghost use Rattle.ends.specs.Places.{Suites, suites, Keep};
 ghost use Rattle.laws.specs.Laws.{CountersOfFramesDiffer, CountersOfDeliveriesRise, RefusedCallsLeaveNoTrace, SentMessagesAreDelivered};
 

@@ -1,4 +1,6 @@
 // The link end over any two suites: make, install, remove, send and arrive.
+#![tactic(auto)]
+
 pub mod arrivals;
 pub mod calls;
 pub mod link_ends;

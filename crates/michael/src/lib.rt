@@ -1,4 +1,6 @@
 // Michael, the message code of TKIP: eight octets over the addresses, the priority and the octets of a message.
+#![tactic(auto)]
+
 ghost use Rattle.std.specs.Prelude.{◌≡◌, ℕ, ◌++◌, length};
 ghost use Rattle.std.specs.List.{flat_map};
 ghost use Rattle.octets.specs.Octets.{Octets};

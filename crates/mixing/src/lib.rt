@@ -1,5 +1,7 @@
 // The key mixing of TKIP: the key of RC4 for each frame. The definitions stand in specs/Mixing.antt.
 // A key is lent as 16 octets or more, of which the first 16 are the temporal key.
+#![tactic(auto)]
+
 ghost use Rattle.std.specs.Prelude.{◌≡◌, ◌^◌, ◌<◌, ◌≤◌, length};
 ghost use Rattle.octets.specs.Octets.{AreOctets, part};
 ghost use Rattle.mixing.specs.Mixing.{phase1, phase2, rc4_key};

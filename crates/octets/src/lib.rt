@@ -1,4 +1,6 @@
 // Octets in lent memory: copied, filled, compared, wiped; and the numbers that they write.
+#![tactic(auto)]
+
 ghost use Rattle.std.specs.Prelude.{◌≡◌, ◌+◌, ◌≤◌, length, replicate};
 ghost use Rattle.std.specs.Str.{bytes_eq};
 ghost use Rattle.octets.specs.Octets.{written};

@@ -1,5 +1,7 @@
 // The field of 256 elements of FIPS 197 and its substitution of octets, the S-box of AES.
 // The definitions stand in specs/Field.antt.
+#![tactic(auto)]
+
 ghost use Rattle.std.specs.Prelude.{◌≡◌};
 ghost use Rattle.sbox.specs.Field.{sub, Inverts};
 

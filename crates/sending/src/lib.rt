@@ -1,4 +1,6 @@
 // A message sent over a suite: checked, cut, sealed, and laid into memory that is lent.
+#![tactic(auto)]
+
 mod checks;
 mod plans;
 mod sealing;

@@ -1,4 +1,6 @@
 // The story: what takes place on the link, told in plain words.
+#![tactic(auto)]
+
 mod newer;
 mod sealing;
 mod telling;

@@ -1,4 +1,6 @@
 // What a suite is: five numbers, four functions and the laws that bind them. The link end is proved from this alone.
+#![tactic(auto)]
+
 pub mod consequences;
 pub mod faults;
 pub mod sizes;

@@ -1,4 +1,6 @@
 // TKIP as a suite: RC4 under a key mixed for each frame, CRC-32 behind the piece, Michael over the message.
+#![tactic(auto)]
+
 ghost use Rattle.std.specs.Prelude.{◌≡◌, ◌+◌, ◌^◌, ◌<◌, ◌≤◌, length, take, drop};
 ghost use Rattle.frame.specs.Headers.{header_length};
 ghost use Rattle.tkip.specs.Tkip.{tkip_sizes, head_octets, counter_in, code_key, under, tkip_code, tkip_seal, tkip_head, tkip_open, tkip};

@@ -1,4 +1,6 @@
 // Published vectors, run: a line for each, with its name and `ok` or `WRONG`.
+#![tactic(auto)]
+
 mod aes_cases;
 mod ccmp_cases;
 mod michael_cases;

@@ -1,4 +1,6 @@
 // Eight octets as one word, the least significant octet first: what code that touches every octet works on.
+#![tactic(auto)]
+
 ghost use Rattle.std.specs.Prelude.{◌≡◌};
 ghost use Rattle.octets.specs.Octets.{little, little_octets, xored};
 
