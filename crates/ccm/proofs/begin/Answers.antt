@@ -13,6 +13,6 @@ returns c =
       | then-additional-eq0 w ↦ w.flags-is ∙ flags_without xs w.if-additional-eq0.true
       | else-additional-eq0 w ↦ w.flags-is ∙ flags_with xs w.if-additional-eq0.false
     ] in
-    let first = c.numbered-word.ensures ∙ ap (λ f. numbered f c.args.nonce.now c.args.size) flags in
-    c.chain-additional.ensures
-    ∙ begun (under c.args.cipher.now) _ (blocks (measured xs)) c.numbered-word.result c.encrypt-word-first.result first c.encrypt-word-first.ensures
+    let first = c.numbered_word.ensures ∙ ap (λ f. numbered f c.args.nonce.now c.args.size) flags in
+    c.chain_additional.ensures
+    ∙ begun (under c.args.cipher.now) _ (blocks (measured xs)) c.numbered_word.result c.encrypt_word-first.result first c.encrypt_word-first.ensures

@@ -7,7 +7,7 @@ use Rattle.ccm.proofs.block_word.Goals as goal
 pub returns-then-octets-at-lt16 : goal.returns-then-octets-at-lt16
 returns-then-octets-at-lt16 c =
     let xs = c.args.octets.now in
-    c.filled-word.ensures ∙ ap filled (take_rest xs (16 * c.args.i)) ∙ sym (block_last xs c.args.i c.requires (omega arith))
+    c.filled_word.ensures ∙ ap filled (take_rest xs (16 * c.args.i)) ∙ sym (block_last xs c.args.i c.requires (omega arith))
 
 pub returns : goal.returns
 returns c =

@@ -11,7 +11,7 @@ loop-i-init c = sym (chained_none (under c.args.cipher.now) (octets c.args.start
 
 pub loop-i-preserved : goal.loop-i-preserved
 loop-i-preserved c =
-    chained_next (under c.args.cipher.now) (octets c.args.start) (block_of c.args.octets.now) c.loop-i.i _ _ _ c.loop-i.invariant c.block-word.ensures c.encrypt-word-x.ensures
+    chained_next (under c.args.cipher.now) (octets c.args.start) (block_of c.args.octets.now) c.loop-i.i _ _ _ c.loop-i.invariant c.block_word.ensures c.encrypt_word-x.ensures
 
 pub returns : goal.returns
 returns c =

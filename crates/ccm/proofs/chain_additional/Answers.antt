@@ -16,4 +16,4 @@ pub returns : goal.returns
 returns c =
     c.chain.ensures
     ∙ ap (λ l. chained (under c.args.cipher.now) (octets c.args.start) (blocks l))
-    (laid_out c.args.additional.now _ _ c.requires c.if-size-eq0.false c.put-u16.ensures c.put.ensures)
+    (laid_out c.args.additional.now _ _ c.requires c.if-size-eq0.false c.put_u16.ensures c.put.ensures)

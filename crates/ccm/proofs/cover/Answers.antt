@@ -24,14 +24,14 @@ loop-i-preserved g c =
     let same = length-covered E nonce xs c.requires.whole in
     let size : 16 * i + 16 - 16 * i ≡ 16 = omega arith in
     let text : octets c.load-block.result ≡ part (16 * i) 16 xs = c.load-block.ensures ∙ ap (λ n. take n (drop (16 * i) xs)) size in
-    let key = c.encrypt-word.ensures ∙ ap E (c.counter-word.ensures nonce c.told-nonce c.numbered-word-base.ensures) in
-    let turned = covered-block E nonce xs i c.load-block.result c.encrypt-word.result c.requires.whole room text key in
+    let key = c.encrypt_word.ensures ∙ ap E (c.counter_word.ensures nonce c.told-nonce c.numbered_word-base.ensures) in
+    let turned = covered-block E nonce xs i c.load-block.result c.encrypt_word.result c.requires.whole room text key in
     let chosen : octets c.if-this-ne0.plain ≡ block_of (plain (opens g.row.OPENING) E nonce xs) i = elim c.if-this-ne0.branch [
       | then-this-ne0 w ↦ ap octets w.plain-is ∙ turned ∙ sym (block_whole (covered E nonce xs) i (omega arith)) ∙ ap (λ l. block_of l i) (opened_plain g.row.OPENING E nonce xs w.if-this-ne0.true)
       | else-this-ne0 w ↦ ap octets w.plain-is ∙ text ∙ sym (block_whole xs i room) ∙ ap (λ l. block_of l i) (sealed_plain g.row.OPENING E nonce xs w.if-this-ne0.false)
     ] in (
       block_next (covered E nonce xs) c.args.out.now c.loop-i.out c.put.new.memory c.store.result i (omega arith) c.loop-i.invariant.0 c.put.ensures (c.store.ensures ∙ turned),
-      chained_next E (octets c.args.start) (block_of (plain (opens g.row.OPENING) E nonce xs)) i c.loop-i.mac c.if-this-ne0.plain c.encrypt-word-mac.result c.loop-i.invariant.1 chosen c.encrypt-word-mac.ensures,
+      chained_next E (octets c.args.start) (block_of (plain (opens g.row.OPENING) E nonce xs)) i c.loop-i.mac c.if-this-ne0.plain c.encrypt_word-mac.result c.loop-i.invariant.1 chosen c.encrypt_word-mac.ensures,
     )
 
 pub returns-then-count-text : goal.returns-then-count-text
@@ -46,8 +46,8 @@ returns-then-count-text g c =
     let long = length_plain (opens g.row.OPENING) E nonce xs c.requires.whole in
     let count : k + 1 ≡ count_blocks ys = omega arith in
     record {
-      memory = rest_next (covered E nonce xs) c.args.out.now c.loop-i.out c.cover-last.new.out c.loop-i.i k all (omega arith) c.loop-i.invariant.0 c.cover-last.ensures.memory;
-      mac = chained_all E (octets c.args.start) ys c.loop-i.i k _ _ all count c.loop-i.invariant.1 c.cover-last.ensures.mac;
+      memory = rest_next (covered E nonce xs) c.args.out.now c.loop-i.out c.cover_last.new.out c.loop-i.i k all (omega arith) c.loop-i.invariant.0 c.cover_last.ensures.memory;
+      mac = chained_all E (octets c.args.start) ys c.loop-i.i k _ _ all count c.loop-i.invariant.1 c.cover_last.ensures.mac;
     }
 
 pub returns : goal.returns

@@ -21,14 +21,14 @@ returns g c =
     let some : 16 * i < length xs = c.requires.some in
     let most : length xs ≤ 16 * i + 16 = omega arith in
     let same = length-covered E nonce xs c.requires.whole in
-    let text = c.filled-word-block.ensures ∙ ap filled (take_rest xs (16 * i)) in
-    let key = c.encrypt-word.ensures ∙ ap E (c.counter-word.ensures nonce c.told-nonce c.numbered-word-base.ensures) in
-    let turned : take size c.store-covered.result ≡ drop (16 * i) (covered E nonce xs) = ap (take size) c.store-covered.ensures ∙ covered-rest E nonce xs i c.filled-word-block.result c.encrypt-word.result size c.requires.whole some most (omega arith) text key in
+    let text = c.filled_word-block.ensures ∙ ap filled (take_rest xs (16 * i)) in
+    let key = c.encrypt_word.ensures ∙ ap E (c.counter_word.ensures nonce c.told-nonce c.numbered_word-base.ensures) in
+    let turned : take size c.store-covered.result ≡ drop (16 * i) (covered E nonce xs) = ap (take size) c.store-covered.ensures ∙ covered-rest E nonce xs i c.filled_word-block.result c.encrypt_word.result size c.requires.whole some most (omega arith) text key in
     let chosen : octets c.if-this-ne0.plain ≡ block_of (plain (opens g.row.OPENING) E nonce xs) i = elim c.if-this-ne0.branch [
-      | then-this-ne0 w ↦ ap octets w.plain-is ∙ w.filled-word-plain.ensures ∙ ap filled turned ∙ sym (block_last (covered E nonce xs) i (omega arith) (omega arith)) ∙ ap (λ l. block_of l i) (opened_plain g.row.OPENING E nonce xs w.if-this-ne0.true)
+      | then-this-ne0 w ↦ ap octets w.plain-is ∙ w.filled_word-plain.ensures ∙ ap filled turned ∙ sym (block_last (covered E nonce xs) i (omega arith) (omega arith)) ∙ ap (λ l. block_of l i) (opened_plain g.row.OPENING E nonce xs w.if-this-ne0.true)
       | else-this-ne0 w ↦ ap octets w.plain-is ∙ text ∙ sym (block_last xs i (omega arith) most) ∙ ap (λ l. block_of l i) (sealed_plain g.row.OPENING E nonce xs w.if-this-ne0.false)
     ] in
     record {
       memory = c.put.ensures ∙ ap (λ l. written (16 * i) l c.args.out.now) turned;
-      mac = c.encrypt-word-2.ensures ∙ ap E (octets-xor c.args.mac c.if-this-ne0.plain ∙ ap (xored (octets c.args.mac)) chosen);
+      mac = c.encrypt_word-2.ensures ∙ ap E (octets-xor c.args.mac c.if-this-ne0.plain ∙ ap (xored (octets c.args.mac)) chosen);
     }

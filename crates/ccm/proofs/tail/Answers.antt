@@ -9,6 +9,6 @@ use Rattle.ccm.proofs.tail.Goals as goal
 
 pub returns : goal.returns
 returns c =
-    let mask = c.encrypt-word.ensures ∙ ap (under c.args.cipher.now) c.numbered-word.ensures in
-    eight c.store.result (bit_xor c.args.mac c.encrypt-word.result) c.store.ensures
-    ∙ ap (take 8) (octets-xor c.args.mac c.encrypt-word.result ∙ ap (xored (octets c.args.mac)) mask)
+    let mask = c.encrypt_word.ensures ∙ ap (under c.args.cipher.now) c.numbered_word.ensures in
+    eight c.store.result (bit_xor c.args.mac c.encrypt_word.result) c.store.ensures
+    ∙ ap (take 8) (octets-xor c.args.mac c.encrypt_word.result ∙ ap (xored (octets c.args.mac)) mask)

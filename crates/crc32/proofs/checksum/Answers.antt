@@ -11,9 +11,9 @@ returns c =
     let xs = c.args.octets.now in
     let k = length xs / 8 in
     let start : ℕ = 0xFFFF_FFFF in
-    let cut = c.as-chunks.ensures in
+    let cut = c.as_chunks.ensures in
     ap (λ x. bit_xor x 0xFFFF_FFFF)
-    (c.take-octets.ensures ∙ ap (λ x. remainder x c.as-chunks.result.1.now) c.take-eights.ensures
-    ∙ ap (λ es. remainder (remainder start (flat_map (λ e. e) es)) c.as-chunks.result.1.now) cut.front
+    (c.take_octets.ensures ∙ ap (λ x. remainder x c.as_chunks.result.1.now) c.take_eights.ensures
+    ∙ ap (λ es. remainder (remainder start (flat_map (λ e. e) es)) c.as_chunks.result.1.now) cut.front
     ∙ ap (remainder (remainder start (flat_map (λ e. e) (first_chunks 8 k xs)))) cut.back
     ∙ sym (remainder-append start (flat_map (λ e. e) (first_chunks 8 k xs)) (drop (k * 8) xs)) ∙ ap (remainder start) (pieces_whole 8 k xs))

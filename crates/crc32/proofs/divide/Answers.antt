@@ -11,6 +11,6 @@ by_tables os = bit_xor (bit_xor (bit_xor (bit_xor (bit_xor (bit_xor (bit_xor (st
 pub returns : goal.returns
 returns c =
     let fits : c.args.word < 2 ^ 64 = search rules in
-    let cut = ap by_tables c.to-octets.ensures in
+    let cut = ap by_tables c.to_octets.ensures in
     let whole = word_apart c.args.word fits in
     cc

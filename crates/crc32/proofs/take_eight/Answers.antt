@@ -7,5 +7,5 @@ use Rattle.crc32.proofs.take_eight.Goals as goal
 
 pub returns : goal.returns
 returns c =
-    c.divide.ensures ∙ ap (λ n. steps 64 (bit_xor n c.args.c)) c.from-octets.ensures
+    c.divide.ensures ∙ ap (λ n. steps 64 (bit_xor n c.args.c)) c.from_octets.ensures
     ∙ eight_octets c.args.c c.args.octets.now c.told-octets (All-from_get_or (λ x. x < 256) c.args.octets.now 0 (λ k h. search rules))

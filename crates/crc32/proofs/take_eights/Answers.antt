@@ -12,7 +12,7 @@ pub loop-eight-preserved : goal.loop-eight-preserved
 loop-eight-preserved c =
     let xs = c.args.eights.now in
     let i = c.loop-eight.eight-index in
-    ap (λ x. rest x (drop (i + 1) xs)) c.take-eight-c.ensures
+    ap (λ x. rest x (drop (i + 1) xs)) c.take_eight-c.ensures
     ∙ sym (remainder-append c.loop-eight.c (get_or xs i []) (flat_map (λ eight. eight) (drop (i + 1) xs)))
     ∙ sym (at_drop_more (rest c.loop-eight.c) xs i [] c.loop-eight-test.true) ∙ c.loop-eight.invariant
 

@@ -9,5 +9,5 @@ pub returns : goal.returns
 returns c =
     let word : c.args.word < 2 ^ 64 = search rules in
     let octets : AreOctets c.args.octets.now = All-from_get_or (λ x. x < 256) c.args.octets.now 0 (λ k h. search rules) in
-    c.to-octets.ensures ∙ ap (λ n. little_octets 8 (bit_xor n c.args.word)) c.from-octets.ensures
+    c.to_octets.ensures ∙ ap (λ n. little_octets 8 (bit_xor n c.args.word)) c.from_octets.ensures
     ∙ word-xored 8 c.args.octets.now c.args.word c.told-octets octets word

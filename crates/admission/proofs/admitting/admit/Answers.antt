@@ -7,12 +7,12 @@ use Rattle.admission.specs.Ranges.{InRange}
 use Rattle.admission.proofs.Reading.{admits}
 use Rattle.admission.proofs.admitting.admit.Goals as goal
 
-pub returns-in-err-check-header : goal.returns-in-err-check-header
-returns-in-err-check-header c =
-    let p = err_from_is_err_and c.from-residual-in-err-check-header.result c.from-residual-in-err-check-header.ensures.1 in
-    let ranges = c.in-ok-check-ranges.ensures in
+pub returns-in_err-check_header : goal.returns-in_err-check_header
+returns-in_err-check_header c =
+    let p = err_from_is_err_and c.from_residual-in_err-check_header.result c.from_residual-in_err-check_header.ensures.1 in
+    let ranges = c.in_ok-check_ranges.ensures in
     let is = admits c.args.coded (held c.args.state.now) c.args.frame.now c.args.time c.args.working c.args.message
-    c.in-ok-header.header c.in-ok-check-ranges.field-0 (Err c.in-err-check-header.field-0.0) ranges.value ranges.range.least c.in-ok-header.ensures c.in-err-check-header.ensures in
+    c.in_ok-header.header c.in_ok-check_ranges.field-0 (Err c.in_err-check_header.field-0.0) ranges.value ranges.range.least c.in_ok-header.ensures c.in_err-check_header.ensures in
     record {
       value = p.1 ∙ ap Err p.2 ∙ sym is;
       range = subst (λ (r : Result Header Refusal). IfOk r (λ _. InRange c.args.time (length c.args.frame.now) c.args.working c.args.message)) (sym p.1) tt;
@@ -20,7 +20,7 @@ returns-in-err-check-header c =
 
 pub returns : goal.returns
 returns c =
-    let ranges = c.in-ok-check-ranges.ensures in
+    let ranges = c.in_ok-check_ranges.ensures in
     let is = admits c.args.coded (held c.args.state.now) c.args.frame.now c.args.time c.args.working c.args.message
-    c.in-ok-header.header c.in-ok-check-ranges.field-0 (Ok c.in-ok-check-header.field-0) ranges.value ranges.range.least c.in-ok-header.ensures c.in-ok-check-header.ensures in
+    c.in_ok-header.header c.in_ok-check_ranges.field-0 (Ok c.in_ok-check_header.field-0) ranges.value ranges.range.least c.in_ok-header.ensures c.in_ok-check_header.ensures in
     record { value = sym is; range = ranges.range }

@@ -28,9 +28,9 @@ returns c =
     let nine : n ≡ 9 = omega arith in
     record {
       first =
-          whole ks _ _ _ _ _ _ _ n c.from-word.ensures key c.xor-s.ensures c.loop-n.invariant.0 nine last
-          (c.to-word.ensures ∙ last_is _ c.loop-n.s _ _ _ _ c.place.ensures c.place-2.ensures c.place-3.ensures c.place-u.ensures);
+          whole ks _ _ _ _ _ _ _ n c.from_word.ensures key c.xor-s.ensures c.loop-n.invariant.0 nine last
+          (c.to_word.ensures ∙ last_is _ c.loop-n.s _ _ _ _ c.place.ensures c.place-2.ensures c.place-3.ensures c.place-u.ensures);
       second =
-          whole ks _ _ _ _ _ _ _ n c.from-word-2.ensures key c.xor-t.ensures c.loop-n.invariant.1 nine last
-          (c.to-word-2.ensures ∙ last_is _ c.loop-n.t _ _ _ _ c.place-4.ensures c.place-5.ensures c.place-6.ensures c.place-v.ensures);
+          whole ks _ _ _ _ _ _ _ n c.from_word-2.ensures key c.xor-t.ensures c.loop-n.invariant.1 nine last
+          (c.to_word-2.ensures ∙ last_is _ c.loop-n.t _ _ _ _ c.place-4.ensures c.place-5.ensures c.place-6.ensures c.place-v.ensures);
     }

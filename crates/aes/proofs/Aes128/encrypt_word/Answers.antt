@@ -15,5 +15,5 @@ loop-n-preserved c =
 
 pub returns : goal.returns
 returns c =
-    whole (round_keys c.args.self.now) _ _ _ _ _ _ _ c.loop-n.n c.from-word.ensures c.key.ensures c.xor-s.ensures c.loop-n.invariant (omega arith) c.key-2.ensures
-    (c.to-word.ensures ∙ last_is _ c.loop-n.s _ _ _ _ c.place.ensures c.place-2.ensures c.place-3.ensures c.place-4.ensures)
+    whole (round_keys c.args.self.now) _ _ _ _ _ _ _ c.loop-n.n c.from_word.ensures c.key.ensures c.xor-s.ensures c.loop-n.invariant (omega arith) c.key-2.ensures
+    (c.to_word.ensures ∙ last_is _ c.loop-n.s _ _ _ _ c.place.ensures c.place-2.ensures c.place-3.ensures c.place-4.ensures)

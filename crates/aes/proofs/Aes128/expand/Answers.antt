@@ -22,7 +22,7 @@ more f ks n b within is below =
 
 pub loop-n-init : goal.loop-n-init
 unfolding round_key
-loop-n-init c = (refl, λ k h. let none : k ≡ 0 = omega arith in rw none c.from-octets-keys.ensures)
+loop-n-init c = (refl, λ k h. let none : k ≡ 0 = omega arith in rw none c.from_octets-keys.ensures)
 
 pub loop-n-preserved : goal.loop-n-preserved
 loop-n-preserved c =
@@ -32,7 +32,7 @@ loop-n-preserved c =
     let key = c.args.key.now in
     let long = inv.0 in
     let here = sym (get_or-map held keys n (record { a = 0; b = 0; c = 0; d = 0 }) [] (omega arith)) ∙ inv.1 n (omega arith) in
-    let v : held c.next-key-next.result ≡ round_key key (n + 1) = next key n _ _ _ c.round-constant.ensures here c.next-key-next.ensures in
+    let v : held c.next_key-next.result ≡ round_key key (n + 1) = next key n _ _ _ c.round_constant.ensures here c.next_key-next.ensures in
     (length-set keys (n + 1) _ ∙ inv.0, more (round_key key) keys (n + 1) _ (omega arith) v inv.1)
 
 pub returns : goal.returns

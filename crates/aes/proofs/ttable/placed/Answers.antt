@@ -7,4 +7,4 @@ pub returns : goal.returns
 returns c =
     let row = c.args.row in
     let v = c.substitute in
-    quad-seat row v.result c.requires v.type-inv ∙ ap (seat row) v.ensures.value
+    quad-seat row v.result c.requires v.type_inv ∙ ap (seat row) v.ensures.value

@@ -6,5 +6,5 @@ use Rattle.arriving.proofs.joining.set.Goals as goal
 
 pub returns : goal.returns
 returns c =
-    let is = c.copy-from-slice.ensures.after in
-    ap (λ (whole : Octets). part_of c.args.incoming.header.now c.args.incoming.counter whole) (take_at c.copy-from-slice.new.self _ _ (ap length is) ∙ is)
+    let is = c.copy_from_slice.ensures.after in
+    ap (λ (whole : Octets). part_of c.args.incoming.header.now c.args.incoming.counter whole) (take_at c.copy_from_slice.new.self _ _ (ap length is) ∙ is)

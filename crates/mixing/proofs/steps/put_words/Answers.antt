@@ -7,7 +7,7 @@ loop-n-init c = laid_none c.args.at c.args.words.now c.args.memory.now
 
 pub loop-n-preserved : goal.loop-n-preserved
 loop-n-preserved c =
-    laid_more c.args.at c.args.words.now c.args.memory.now c.loop-n.n c.loop-n.memory c.put-u16.new.memory (omega arith) (omega arith) c.loop-n.invariant c.put-u16.ensures
+    laid_more c.args.at c.args.words.now c.args.memory.now c.loop-n.n c.loop-n.memory c.put_u16.new.memory (omega arith) (omega arith) c.loop-n.invariant c.put_u16.ensures
 
 pub returns : goal.returns
 returns c =

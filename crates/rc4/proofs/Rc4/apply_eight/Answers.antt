@@ -11,7 +11,7 @@ returns c =
     let eight : length xs ≡ 8 = c.requires in
     record {
       octets =
-          c.copy-from-slice.ensures.after ∙ c.exclusive-or.ensures ∙ ap (λ l. xored l (little_octets 8 c.next-word-mask.result)) (sym (spelled 8 xs eight))
-          ∙ ap (xored xs) c.next-word-mask.ensures.value ∙ ap (λ n. xored xs (keystream s n)) (sym eight);
-      state = c.next-word-mask.ensures.state;
+          c.copy_from_slice.ensures.after ∙ c.exclusive_or.ensures ∙ ap (λ l. xored l (little_octets 8 c.next_word-mask.result)) (sym (spelled 8 xs eight))
+          ∙ ap (xored xs) c.next_word-mask.ensures.value ∙ ap (λ n. xored xs (keystream s n)) (sym eight);
+      state = c.next_word-mask.ensures.state;
     }

@@ -19,7 +19,7 @@ loop-i-preserved c =
     let s = c.loop-i.state.table in
     let move : ((j + get_or s i 0) % 256 + get_or key c.loop-i.k 0) % 256 ≡ key_move key i (s, j) =
     ap (λ k. ((j + get_or s i 0) % 256 + get_or key k 0) % 256) c.loop-i.invariant.1 ∙ twice_reduced (j + get_or s i 0) (get_or key (i % length key) 0) in
-    (turn_more key s i j _ c.loop-i.invariant.0 move, c.place-after-k.ensures i c.loop-i.invariant.1, c.loop-i.invariant.2, c.loop-i.invariant.3)
+    (turn_more key s i j _ c.loop-i.invariant.0 move, c.place_after-k.ensures i c.loop-i.invariant.1, c.loop-i.invariant.2, c.loop-i.invariant.3)
 
 pub returns : goal.returns
 unfolding scheduled

@@ -20,6 +20,6 @@ returns c =
       value =
           ap (little_octets 8)
           (sum c.next-a.result c.next.result c.next-2.result c.next-3.result c.next-4.result c.next-5.result c.next-6.result c.next-7.result)
-          ∙ octets_from_little ks (c.next-a.type-inv, (c.next.type-inv, (c.next-2.type-inv, (c.next-3.type-inv, (c.next-4.type-inv, (c.next-5.type-inv, (c.next-6.type-inv, (c.next-7.type-inv, tt))))))))
+          ∙ octets_from_little ks (c.next-a.type_inv, (c.next.type_inv, (c.next-2.type_inv, (c.next-3.type_inv, (c.next-4.type_inv, (c.next-5.type_inv, (c.next-6.type_inv, (c.next-7.type_inv, tt))))))))
           ∙ stream;
     }

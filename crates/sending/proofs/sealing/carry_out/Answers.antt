@@ -15,10 +15,10 @@ returns g c =
     let key = take (z.key - 0) whole in
     let key_long : z.key - 0 ≡ M.sizes.key = omega (arith, ap (λ z. z.key) c.sizes-sizes.ensures) in
     let is_key : key ≡ take M.sizes.key whole = ap (λ n. take n whole) key_long in
-    let long : length (coded M p key message) ≡ length message + z.code - 0 = omega (arith, ap (λ z. z.code) c.sizes-sizes.ensures, c.write-coded.ensures.length) in
-    let is-coded = take-begun (length message + z.code - 0) (coded M p key message) c.args.working.now c.write-coded.new.working long c.write-coded.ensures.memory in
-    let same : frames_of M p key (take (length message + z.code - 0) c.write-coded.new.working) ≡ frames_from M c.args.outgoing.now message = ap (frames_of M p key) is-coded ∙ ap (λ k. frames_of M p k (coded M p k message)) is_key in
+    let long : length (coded M p key message) ≡ length message + z.code - 0 = omega (arith, ap (λ z. z.code) c.sizes-sizes.ensures, c.write_coded.ensures.length) in
+    let is-coded = take-begun (length message + z.code - 0) (coded M p key message) c.args.working.now c.write_coded.new.working long c.write_coded.ensures.memory in
+    let same : frames_of M p key (take (length message + z.code - 0) c.write_coded.new.working) ≡ frames_from M c.args.outgoing.now message = ap (frames_of M p key) is-coded ∙ ap (λ k. frames_of M p k (coded M p k message)) is_key in
     record {
-      frames = subst (λ (l : List Octets). c.write-frames.new.frames ≡ begins (joined l) c.args.frames.now) same c.write-frames.ensures.frames;
-      index = subst (λ (l : List Octets). c.write-frames.new.index ≡ begins (spans 0 l) c.args.index.now) same c.write-frames.ensures.index;
+      frames = subst (λ (l : List Octets). c.write_frames.new.frames ≡ begins (joined l) c.args.frames.now) same c.write_frames.ensures.frames;
+      index = subst (λ (l : List Octets). c.write_frames.new.index ≡ begins (spans 0 l) c.args.index.now) same c.write_frames.ensures.index;
     }

@@ -9,31 +9,31 @@ use Rattle.sending.proofs.Deciding.{refused, granted}
 use Rattle.sending.proofs.Finishing.{leaves_refused, leaves-granted}
 use Rattle.sending.proofs.sends.send_over.Goals as goal
 
-pub returns-in-err-outgoing : goal.returns-in-err-outgoing
-returns-in-err-outgoing g c =
+pub returns-in_err-outgoing : goal.returns-in_err-outgoing
+returns-in_err-outgoing g c =
     let M = g.S.Suite.means in
     let e = held c.args.state.now in
     let s = sending c.args.request.now c.args.message.now c.args.frames.now c.args.index.now c.args.working.now in
-    let x = c.in-err-outgoing.field-0.0 in
-    let exit = err_from_is_err_and c.from-residual.result c.from-residual.ensures.1 in
-    let is : c.from-residual.result ≡ Err x = exit.1 ∙ ap (λ (x : Refusal). Err x) exit.2 in
-    let why = refused c.sizes.result M.sizes c.sizes.ensures c.args.state.now s x c.in-err-outgoing.ensures in
+    let x = c.in_err-outgoing.field-0.0 in
+    let exit = err_from_is_err_and c.from_residual.result c.from_residual.ensures.1 in
+    let is : c.from_residual.result ≡ Err x = exit.1 ∙ ap (λ (x : Refusal). Err x) exit.2 in
+    let why = refused c.sizes.result M.sizes c.sizes.ensures c.args.state.now s x c.in_err-outgoing.ensures in
     subst (λ (r : Result ℕ Refusal). Leaves (judge_send M e s) e e r s.frames s.frames s.index s.index) (sym is) (leaves_refused M e s x why)
 
-pub carry-out-requires : goal.carry-out-requires
-carry-out-requires g c =
+pub carry_out-requires : goal.carry_out-requires
+carry_out-requires g c =
     let s = sending c.args.request.now c.args.message.now c.args.frames.now c.args.index.now c.args.working.now in
-    record { ready = (granted c.sizes.result g.S.Suite.means.sizes c.sizes.ensures c.args.state.now s c.in-ok-outgoing.outgoing g.met.S.Suite.keeps.bounded c.in-ok-outgoing.ensures).ready }
+    record { ready = (granted c.sizes.result g.S.Suite.means.sizes c.sizes.ensures c.args.state.now s c.in_ok-outgoing.outgoing g.met.S.Suite.keeps.bounded c.in_ok-outgoing.ensures).ready }
 
-pub note-sent-requires : goal.note-sent-requires
-note-sent-requires g c =
+pub note_sent-requires : goal.note_sent-requires
+note_sent-requires g c =
     let s = sending c.args.request.now c.args.message.now c.args.frames.now c.args.index.now c.args.working.now in
-    let w = granted c.sizes.result g.S.Suite.means.sizes c.sizes.ensures c.args.state.now s c.in-ok-outgoing.outgoing g.met.S.Suite.keeps.bounded c.in-ok-outgoing.ensures in
+    let w = granted c.sizes.result g.S.Suite.means.sizes c.sizes.ensures c.args.state.now s c.in_ok-outgoing.outgoing g.met.S.Suite.keeps.bounded c.in_ok-outgoing.ensures in
     record { there = w.there; few = omega (arith, w.counters, g.met.S.Suite.keeps.bounded.top_most) }
 
 pub returns : goal.returns
 returns g c =
     let M = g.S.Suite.means in
     let s = sending c.args.request.now c.args.message.now c.args.frames.now c.args.index.now c.args.working.now in
-    let w = granted c.sizes.result M.sizes c.sizes.ensures c.args.state.now s c.in-ok-outgoing.outgoing g.met.S.Suite.keeps.bounded c.in-ok-outgoing.ensures in
-    leaves-granted M (held c.args.state.now) s c.in-ok-outgoing.outgoing w (held c.note-sent.new.state) c.carry-out.new.frames c.carry-out.new.index c.note-sent.ensures c.carry-out.ensures.frames c.carry-out.ensures.index
+    let w = granted c.sizes.result M.sizes c.sizes.ensures c.args.state.now s c.in_ok-outgoing.outgoing g.met.S.Suite.keeps.bounded c.in_ok-outgoing.ensures in
+    leaves-granted M (held c.args.state.now) s c.in_ok-outgoing.outgoing w (held c.note_sent.new.state) c.carry_out.new.frames c.carry_out.new.index c.note_sent.ensures c.carry_out.ensures.frames c.carry_out.ensures.index

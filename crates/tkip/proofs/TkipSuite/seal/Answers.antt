@@ -13,9 +13,9 @@ returns c =
     let piece = c.args.piece.now in
     let old = c.args.out.now in
     record {
-      length = seal_length key header c.args.key-id c.args.counter piece;
+      length = seal_length key header c.args.key_id c.args.counter piece;
       memory =
-          seal-laid key header c.args.counter (8 + length piece) _ (head_octets c.args.key-id c.args.counter) piece (check_octets piece) _ _ _ _ old refl refl (omega arith)
+          seal-laid key header c.args.counter (8 + length piece) _ (head_octets c.args.key_id c.args.counter) piece (check_octets piece) _ _ _ _ old refl refl (omega arith)
           (c.put.ensures ∙ ap (λ h. written 0 h old) c.head_octets.ensures)
           c.put-2.ensures
           (c.put-3.ensures ∙ ap (λ t. written (8 + length piece) t c.put-2.new.memory) c.check_octets.ensures)

@@ -10,6 +10,6 @@ returns-then-eq c =
       words = λ _. sym c.mix-phase1.ensures ∙ (slice_eq-Decides Decides-eqb c.mix-phase1.result.words case.words c.eq.result c.eq.ensures).0 c.if-eq.true;
       seed = λ right.
           let same : c.eq-then-eq.result ≡ true = search rules in
-          sym c.rc4-key-seed.ensures.value
-          ∙ (slice_eq-Decides Decides-eqb c.rc4-key-seed.result case.seed.now c.eq-then-eq.result c.eq-then-eq.ensures).0 same;
+          sym c.rc4_key-seed.ensures.value
+          ∙ (slice_eq-Decides Decides-eqb c.rc4_key-seed.result case.seed.now c.eq-then-eq.result c.eq-then-eq.ensures).0 same;
     }

@@ -8,5 +8,5 @@ pub returns : goal.returns
 returns c right =
     let cover = c.args.cover.now in
     let same : c.eq.result ≡ true = search rules in
-    sym (c.cover.ensures.octets ∙ ap (covered cover.key.now) c.copy-from-slice.ensures.after)
+    sym (c.cover.ensures.octets ∙ ap (covered cover.key.now) c.copy_from_slice.ensures.after)
     ∙ (slice_eq-Decides Decides-eqb c.cover.new.octets cover.cipher.now c.eq.result c.eq.ensures).0 same

@@ -8,4 +8,4 @@ four w = get_or w 0 0 ∷ get_or w 1 0 ∷ get_or w 2 0 ∷ get_or w 3 0 ∷ []
 
 pub returns : goal.returns
 unfolding held
-returns c = λ i. four (c.to-le-bytes.ensures i) ++ four (c.to-le-bytes-2.ensures i) ++ four (c.to-le-bytes-3.ensures i) ++ four (c.to-le-bytes-4.ensures i)
+returns c = λ i. four (c.to_le_bytes.ensures i) ++ four (c.to_le_bytes-2.ensures i) ++ four (c.to_le_bytes-3.ensures i) ++ four (c.to_le_bytes-4.ensures i)

@@ -18,7 +18,7 @@ pub returns-then-not-right : goal.returns-then-not-right
 returns-then-not-right c =
     let body = c.args.body.now in
     let short : length body ≤ 2328 = omega arith in
-    let a = answered c.args.key.now c.args.header.now body c.args.out.now c.open-right.new.out _ _ _ _ c.open-right.result short c.key-octets.ensures c.counter.ensures.value c.nonce.ensures c.additional.ensures c.open-right.ensures.answer c.open-right.ensures.memory in
+    let a = answered c.args.key.now c.args.header.now body c.args.out.now c.open-right.new.out _ _ _ _ c.open-right.result short c.key_octets.ensures c.counter.ensures.value c.nonce.ensures c.additional.ensures c.open-right.ensures.answer c.open-right.ensures.memory in
     record {
       answer = answer_wrong (opened_in c.args.key.now c.args.header.now body) (sym a.which ∙ c.if-not-right.true) ∙ ap length_or_fault a.opened;
       says = short;
@@ -32,7 +32,7 @@ returns c =
     let body = c.args.body.now in
     let long = accepted body c.requires.accepted in
     let short : length body ≤ 2328 = omega arith in
-    let a = answered key header body c.args.out.now c.open-right.new.out _ _ _ _ c.open-right.result short c.key-octets.ensures c.counter.ensures.value c.nonce.ensures c.additional.ensures c.open-right.ensures.answer c.open-right.ensures.memory in
+    let a = answered key header body c.args.out.now c.open-right.new.out _ _ _ _ c.open-right.result short c.key_octets.ensures c.counter.ensures.value c.nonce.ensures c.additional.ensures c.open-right.ensures.answer c.open-right.ensures.memory in
     record {
       answer = answer_right (opened_in key header body) (length body - 16) (sym a.which ∙ c.if-not-right.false) (λ piece e. piece_length key header body piece long e) ∙ ap length_or_fault a.opened;
       says = (omega arith, omega arith, omega arith);

@@ -9,13 +9,13 @@ use Rattle.ccmp.proofs.suites.CcmpSuite.seal.Goals as goal
 
 pub returns : goal.returns
 returns c =
-    let head = head_octets c.args.key-id c.args.counter in
+    let head = head_octets c.args.key_id c.args.counter in
     let piece = c.args.piece.now in
     let old = c.args.out.now in
     let one = c.put.new.memory in
     let first = c.put.ensures ∙ ap (λ h. written 0 h old) c.head.ensures in
-    let rest = c.seal.ensures.memory ∙ (λ i. begins (ccm_seal (aes128 (c.key-octets.ensures i)) (c.nonce.ensures i) (c.additional.ensures i) piece) (take (length one - 8) (drop 8 one))) in
+    let rest = c.seal.ensures.memory ∙ (λ i. begins (ccm_seal (aes128 (c.key_octets.ensures i)) (c.nonce.ensures i) (c.additional.ensures i) piece) (take (length one - 8) (drop 8 one))) in
     record {
-      length = length_sealed c.args.key.now c.args.header.now c.args.key-id c.args.counter piece;
+      length = length_sealed c.args.key.now c.args.header.now c.args.key_id c.args.counter piece;
       memory = written_after 8 head _ old one c.seal.new.out refl first rest;
     }

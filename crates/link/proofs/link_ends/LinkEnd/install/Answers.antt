@@ -18,6 +18,6 @@ returns g c =
     let i = installing c.args.place c.args.key.now c.args.address.now c.args.start c.args.time in
     let checks = install_checks (suite_at S c.args.place).sizes e i in
     record {
-      step = granted-step S e (Fills c.args.place (installed i)) refl (Install i) checks c.install.result (held c.install.new.state) refl (λ w. refl) (c.install.ensures.answered ∙ ap (λ (z : Sizes). first (install_checks z e i) tt) c.sizes-at-sizes.ensures.value) c.install.ensures.holds;
+      step = granted-step S e (Fills c.args.place (installed i)) refl (Install i) checks c.install.result (held c.install.new.state) refl (λ w. refl) (c.install.ensures.answered ∙ ap (λ (z : Sizes). first (install_checks z e i) tt) c.sizes_at-sizes.ensures.value) c.install.ensures.holds;
       suites = record { pairwise = refl; group = refl };
     }

@@ -10,7 +10,7 @@ returns-in-Pairwise g c =
     let S = suites g.P.Suite.means g.G.Suite.means in
     let s = sending c.args.request.now c.args.message.now c.args.frames.now c.args.index.now c.args.working.now in
     record {
-      step = send-step S (held c.args.self.now.state) (held c.send-over.new.state) s g.P.Suite.means c.send-over.result c.send-over.new.frames c.send-over.new.index c.drop-guard.new.self.0 (ap (suite_at S) c.in-Pairwise.is) c.send-over.ensures (c.drop-guard.ensures ∙ ap (λ n. replicate n 0) c.send-over.auto.working);
+      step = send-step S (held c.args.self.now.state) (held c.send_over.new.state) s g.P.Suite.means c.send_over.result c.send_over.new.frames c.send_over.new.index c.drop-guard.new.self.0 (ap (suite_at S) c.in-Pairwise.is) c.send_over.ensures (c.drop-guard.ensures ∙ ap (λ n. replicate n 0) c.send_over.auto.working);
       suites = record { pairwise = refl; group = refl };
     }
 
@@ -19,6 +19,6 @@ returns g c =
     let S = suites g.P.Suite.means g.G.Suite.means in
     let s = sending c.args.request.now c.args.message.now c.args.frames.now c.args.index.now c.args.working.now in
     record {
-      step = send-step S (held c.args.self.now.state) (held c.send-over-in-Group.new.state) s g.G.Suite.means c.send-over-in-Group.result c.send-over-in-Group.new.frames c.send-over-in-Group.new.index c.drop-guard-2.new.self.0 (ap (suite_at S) c.in-Group.is) c.send-over-in-Group.ensures (c.drop-guard-2.ensures ∙ ap (λ n. replicate n 0) c.send-over-in-Group.auto.working);
+      step = send-step S (held c.args.self.now.state) (held c.send_over-in-Group.new.state) s g.G.Suite.means c.send_over-in-Group.result c.send_over-in-Group.new.frames c.send_over-in-Group.new.index c.drop-guard-2.new.self.0 (ap (suite_at S) c.in-Group.is) c.send_over-in-Group.ensures (c.drop-guard-2.ensures ∙ ap (λ n. replicate n 0) c.send_over-in-Group.auto.working);
       suites = record { pairwise = refl; group = refl };
     }

@@ -8,7 +8,7 @@ pub loop-i-preserved : goal.loop-i-preserved
 loop-i-preserved c =
     let state : State = record { left = c.loop-i.left; right = c.loop-i.right } in
     let octets = c.args.octets.now in
-    let taken = c.take-next.ensures ∙ ap (taking state) c.u32-at.ensures in
+    let taken = c.take-next.ensures ∙ ap (taking state) c.u32_at.ensures in
     ap (λ s. chain s (words (drop (4 * (c.loop-i.i + 1)) octets))) taken
     ∙ sym (chain_more state octets c.loop-i.i c.loop-i-test.true)
     ∙ c.loop-i.invariant

@@ -9,5 +9,5 @@ returns c =
     let state = c.args.self.state in
     let waiting = held c.args.self.waiting in
     let taken = c.take-2.ensures ∙ ap (λ s. taking s 0) c.take.ensures in
-    let last = sym (ap (chain state) c.padded-word.ensures) ∙ sym (ap (ends_in state) (append-nil waiting)) in
+    let last = sym (ap (chain state) c.padded_word.ensures) ∙ sym (ap (ends_in state) (append-nil waiting)) in
     c.octets.ensures ∙ ap code_octets (taken ∙ last)

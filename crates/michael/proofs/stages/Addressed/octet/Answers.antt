@@ -10,7 +10,7 @@ returns-in-Three c rest =
     let state = c.args.self.state in
     let octet = c.args.octet in
     let three = c.in-Three in
-    let word = word_of _ three.a three.b three.c octet c.from-le-bytes.ensures in
+    let word = word_of _ three.a three.b three.c octet c.from_le_bytes.ensures in
     c.over.ensures rest
     ∙ ap (λ s. ends_in s rest) (c.take.ensures ∙ ap (taking state) word)
     ∙ sym (ends_in-append state (three.a ∷ three.b ∷ three.c ∷ octet ∷ []) rest refl)

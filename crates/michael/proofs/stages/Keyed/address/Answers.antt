@@ -10,5 +10,5 @@ returns c rest =
     let ld : length destination.octets ≡ 6 = search rules in
     let ls : length source.octets ≡ 6 = search rules in
     c.over.ensures rest
-    ∙ ap (λ s. ends_in s rest) c.take-words.ensures
+    ∙ ap (λ s. ends_in s rest) c.take_words.ensures
     ∙ ends_in-heading c.args.self.state destination source c.args.priority rest ld ls

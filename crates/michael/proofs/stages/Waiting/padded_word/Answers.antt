@@ -10,13 +10,13 @@ as_made : (w v : Waiting) (x y : ℕ) → w ≡ v → x ≡ y → words (padded 
 as_made w v x y waits made last = ap (λ u. words (padded (held u))) waits ∙ last ∙ sym (ap (λ z. z ∷ 0 ∷ []) made)
 
 pub returns-in-Nothing : goal.returns-in-Nothing
-returns-in-Nothing c = as_made _ _ _ _ c.in-Nothing.is (word_of _ 90 0 0 0 c.from-le-bytes.ensures) refl
+returns-in-Nothing c = as_made _ _ _ _ c.in-Nothing.is (word_of _ 90 0 0 0 c.from_le_bytes.ensures) refl
 
 pub returns-in-One : goal.returns-in-One
-returns-in-One c = as_made _ _ _ _ c.in-One.is (word_of _ c.in-One.a 90 0 0 c.from-le-bytes-in-One.ensures) refl
+returns-in-One c = as_made _ _ _ _ c.in-One.is (word_of _ c.in-One.a 90 0 0 c.from_le_bytes-in-One.ensures) refl
 
 pub returns-in-Two : goal.returns-in-Two
-returns-in-Two c = as_made _ _ _ _ c.in-Two.is (word_of _ c.in-Two.a c.in-Two.b 90 0 c.from-le-bytes-in-Two.ensures) refl
+returns-in-Two c = as_made _ _ _ _ c.in-Two.is (word_of _ c.in-Two.a c.in-Two.b 90 0 c.from_le_bytes-in-Two.ensures) refl
 
 pub returns-in-Three : goal.returns-in-Three
-returns-in-Three c = as_made _ _ _ _ c.in-Three.is (word_of _ c.in-Three.a c.in-Three.b c.in-Three.c 90 c.from-le-bytes-in-Three.ensures) refl
+returns-in-Three c = as_made _ _ _ _ c.in-Three.is (word_of _ c.in-Three.a c.in-Three.b c.in-Three.c 90 c.from_le_bytes-in-Three.ensures) refl

@@ -7,7 +7,7 @@ use Rattle.suite_tests.proofs.plain.PlainSuite.seal.Goals as goal
 pub returns : goal.returns
 returns c =
     let old = c.args.out.now in
-    let head = c.args.counter ∷ c.args.key-id ∷ [] in
+    let head = c.args.counter ∷ c.args.key_id ∷ [] in
     let piece = c.args.piece.now in
     let tail = get_or c.args.key.now 0 0 ∷ [] in
     let first = c.put.ensures ∙ written_start head old in
