@@ -1,5 +1,5 @@
 -- What a verdict leaves in the end, in the answer and in every memory; steps and runs.
-use Rattle.std.specs.Prelude.{◌≡◌, ℕ, ◌+◌, ◌%◌, Bool, true, false, cond, List, [], ◌∷◌, length, replicate, Some, None, Option, ◌==◌, nat_lt}
+use Rattle.std.specs.Prelude.{◌≡◌, ℕ, ◌+◌, ◌%◌, Bool, true, false, cond, List, [], ◌∷◌, ◌++◌, length, drop, replicate, Some, None, Option, ◌==◌, nat_lt}
 use Rattle.octets.specs.Octets.{Octets, begins}
 use Rattle.frame.specs.Addresses.{number}
 use Rattle.frame.specs.declared.addresses.Address.{Address}
@@ -124,10 +124,14 @@ memories_of_arrival working message = record { frames = []; index = []; working 
 abbrev pub wiped : Octets → Octets
 wiped memory = replicate (length memory) 0
 
+-- an index memory once rows were written at its start
+abbrev pub rows_begin : List Span → List Span → List Span
+rows_begin rows old = rows ++ drop (length rows) old
+
 abbrev pub memories : Call → Verdict → Memories
 memories (Install i) v = no_memories
 memories (Remove p) v = no_memories
-memories (Send s) v = memories_of_send (begins (joined (frames_sent v)) s.frames) (begins (spans 0 (frames_sent v)) s.index) (wiped s.working)
+memories (Send s) v = memories_of_send (begins (joined (frames_sent v)) s.frames) (rows_begin (spans 0 (frames_sent v)) s.index) (wiped s.working)
 memories (Arrive a) v = memories_of_arrival (wiped a.working) (begins (message_delivered v) a.message)
 
 -- steps and runs

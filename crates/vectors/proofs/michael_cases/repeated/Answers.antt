@@ -7,4 +7,4 @@ pub loop-turn-preserved : goal.loop-turn-preserved
 loop-turn-preserved c =
     c.block-state.ensures
     ∙ ap block c.loop-turn.invariant
-    ∙ sym (ap (λ n. repeated n c.args.from) (add-one c.loop-turn.-turn))
+    ∙ sym (ap (λ n. repeated n c.args.from) (add-one c.loop-turn._turn))
