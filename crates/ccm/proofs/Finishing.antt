@@ -1,5 +1,5 @@
 -- The tail from the parts of the CBC-MAC, and what seal and open leave.
-use Rattle.std.proofs.Common.{◌≡◌, ℕ, ◌+◌, ◌-◌, Bool, cond, ◌∷◌, ◌++◌, length, take, drop, replicate, Some, None, sym, ap, ◌∙◌, arith}
+use Rattle.std.proofs.Common.{◌≡◌, ℕ, ◌-◌, Bool, cond, ◌∷◌, ◌++◌, length, take, drop, replicate, Some, None, sym, ap, ◌∙◌, arith}
 use Rattle.std.specs.Str.{bytes_eq}
 use Rattle.std.proofs.lemmas.List.{length-replicate, length-take-le, take_at, take_rest, drop_at}
 use Rattle.octets.specs.Octets.{Octets, written, begins, xored}

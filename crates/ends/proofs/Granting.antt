@@ -1,9 +1,9 @@
 -- Calls that checks alone decide: install and remove.
-use Rattle.std.proofs.Common.{◌≡◌, Bool, true, false, cond, List, [], ◌∷◌, Ok, Err, Result, sym, refl, ap, ◌∙◌}
+use Rattle.std.proofs.Common.{◌≡◌, Bool, true, false, cond, List, [], ◌∷◌, Err, Result, sym, refl, ap, ◌∙◌}
 use Rattle.ends.specs.declared.refusals.Refusal.{Refusal}
 use Rattle.ends.specs.Places.{Suites}
 use Rattle.ends.specs.Holding.{End}
-use Rattle.ends.specs.Calls.{Call, Verdict, Answer, told}
+use Rattle.ends.specs.Calls.{Call, Verdict, told}
 use Rattle.ends.specs.Calls.Answer.{Granted}
 use Rattle.ends.specs.Checks.{Check, first, settled}
 use Rattle.ends.specs.Installs.{if_granted}

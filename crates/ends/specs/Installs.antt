@@ -1,5 +1,5 @@
 -- Make, install and remove.
-use Rattle.std.specs.Prelude.{ℕ, Bool, true, false, cond, not, List, [], ◌∷◌, length, replicate, is_some, Some, None, Ok, Err, Option, Result, ◌==◌, nat_lt}
+use Rattle.std.specs.Prelude.{Bool, false, cond, not, List, [], ◌∷◌, length, replicate, is_some, None, Ok, Err, Result, ◌==◌, nat_lt}
 use Rattle.octets.specs.Octets.{Octets, begins}
 use Rattle.frame.specs.Addresses.{is_group}
 use Rattle.frame.specs.declared.addresses.Address.{Address}

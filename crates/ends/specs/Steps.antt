@@ -2,14 +2,11 @@
 use Rattle.std.specs.Prelude.{◌≡◌, ℕ, ◌+◌, ◌%◌, Bool, true, false, cond, List, [], ◌∷◌, ◌++◌, length, drop, replicate, Some, None, Option, ◌==◌, nat_lt}
 use Rattle.octets.specs.Octets.{Octets, begins}
 use Rattle.frame.specs.Addresses.{number}
-use Rattle.frame.specs.declared.addresses.Address.{Address}
 use Rattle.ends.specs.declared.places.Place.{Place}
 use Rattle.ends.specs.declared.places.Place.TheVariants.{Pairwise, Group}
 use Rattle.ends.specs.declared.roles.CodedSuites.{CodedSuites}
 use Rattle.ends.specs.declared.requests.Span.{Span}
-use Rattle.ends.specs.declared.answers.Arrived.{Arrived}
 use Rattle.ends.specs.declared.answers.Arrived.TheVariants.{Held, Delivered}
-use Rattle.ends.specs.declared.answers.Delivery.{Delivery}
 use Rattle.ends.specs.declared.refusals.Refusal.{Refusal}
 use Rattle.ends.specs.declared.refusals.Refusal.TheVariants.{CodeFailed, BlockBegun}
 use Rattle.ends.specs.Refusals.{refusal_number}

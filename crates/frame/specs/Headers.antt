@@ -4,7 +4,7 @@
 --    2, 3   duration, zeros
 --    4-9, 10-15, 16-21   Address 1, 2 and 3
 --    22, 23 sequence control: sequence number × 16 + fragment number, the low octet first
-use Rattle.std.specs.Prelude.{ℕ, ◌+◌, ◌*◌, ◌/◌, ◌%◌, Bool, true, false, cond, ◌∷◌, ◌++◌, length, Ok, Err, Result, ◌==◌, nat_lt, slice_index}
+use Rattle.std.specs.Prelude.{ℕ, ◌+◌, ◌*◌, ◌/◌, ◌%◌, Bool, cond, ◌∷◌, ◌++◌, length, Ok, Err, Result, ◌==◌, nat_lt, slice_index}
 use Rattle.octets.specs.Octets.{Octets, little, little_octets, part}
 use Rattle.frame.specs.Addresses.{address_at}
 use Rattle.frame.specs.declared.headers.Header.{Header}

@@ -1,5 +1,5 @@
 -- The key of RC4 has sixteen octets, and of the key that it is made from only the first sixteen octets count.
-use Rattle.std.proofs.Common.{◌≡◌, ℕ, zero, suc, ◌+◌, ◌-◌, ◌*◌, ◌/◌, ◌%◌, ◌^◌, ◌<◌, ◌≤◌, List, [], ◌∷◌, ◌++◌, length, get_or, take, drop, set, sym, refl, ap, ◌∙◌, arith, length-set}
+use Rattle.std.proofs.Common.{◌≡◌, ℕ, zero, suc, ◌+◌, ◌-◌, ◌*◌, ◌/◌, ◌%◌, ◌^◌, ◌<◌, List, [], ◌∷◌, length, get_or, take, drop, sym, refl, ap, ◌∙◌, arith, length-set}
 use lib.Bits.{bit_and, bit_or, bit_xor, and_le_r}
 use Rattle.std.proofs.lemmas.List.{length-append, drop-take, take-take}
 use Rattle.octets.specs.Octets.{Octets, AreOctets, little, part}

@@ -1,7 +1,7 @@
 -- Words laid out in a memory, one after another.
 use Rattle.std.proofs.Common.{◌≡◌, ℕ, ◌+◌, ◌*◌, ◌<◌, ◌≤◌, List, [], ◌∷◌, ◌++◌, length, get_or, take, drop, replicate, sym, refl, ap, ◌∙◌, add-zero, arith}
-use Rattle.std.proofs.lemmas.List.{append_assoc, append-nil, length-append, length-take-le, take-append-drop, take_more, take_all}
-use Rattle.octets.specs.Octets.{Octets, little_octets, written, begins}
+use Rattle.std.proofs.lemmas.List.{append-nil, length-append, length-take-le, take-append-drop, take_more, take_all}
+use Rattle.octets.specs.Octets.{Octets, little_octets, written}
 use Rattle.octets.proofs.Writing.{written_start, written_next, written_on}
 use Rattle.mixing.specs.Mixing.{octets_of}
 

@@ -1,5 +1,5 @@
 -- What follows from the laws of a suite.
-use Rattle.std.proofs.Common.{◌≡◌, ℕ, ◌+◌, ◌<◌, ◌≤◌, length, Ok, Err, Result, sym, refl, ◌∙◌, arith}
+use Rattle.std.proofs.Common.{◌≡◌, ◌+◌, ◌<◌, length, Ok, Err, Result, refl, arith}
 use Rattle.octets.specs.Octets.{Octets}
 use Rattle.suite.specs.Meaning.{Meaning, longest_piece, length_or_fault}
 use Rattle.suite.specs.Laws.{Opens, Keeps, OnePiece, LongRefused}

@@ -1,5 +1,5 @@
 -- What a suite means: its five numbers and its four functions, which depend on what they are given and on nothing else.
-use Rattle.std.specs.Prelude.{ℕ, ◌-◌, ◌++◌, length, replicate, Ok, Err, Result}
+use Rattle.std.specs.Prelude.{ℕ, ◌-◌, length, replicate, Ok, Err, Result}
 use Rattle.octets.specs.Octets.{Octets, begins}
 use Rattle.frame.specs.declared.addresses.Address.{Address}
 use Rattle.suite.specs.declared.sizes.Sizes.{Sizes}

@@ -1,11 +1,11 @@
 -- The suite for tests keeps the laws.
-use Rattle.std.specs.Prelude.{◌≡◌, ℕ, ◌+◌, ◌-◌, ◌<◌, ◌≤◌, [], ◌∷◌, ◌++◌, length, drop, Ok, Err, slice_index, slice_index_or, refl}
-use Rattle.std.proofs.Common.{sym, ap, subst, ◌∙◌, arith, rules}
+use Rattle.std.specs.Prelude.{◌≡◌, ℕ, ◌+◌, ◌-◌, ◌<◌, ◌≤◌, [], ◌∷◌, ◌++◌, length, drop, Ok, slice_index, slice_index_or, refl}
+use Rattle.std.proofs.Common.{sym, ap, subst, ◌∙◌, arith}
 use Rattle.std.proofs.ByRecursion.{All-get_or, All-take, All-drop, All-push}
-use Rattle.std.proofs.lemmas.List.{length_push, same_from_push, take_more, take_all, length-drop, length-take-le, get_or-drop}
+use Rattle.std.proofs.lemmas.List.{length_push, same_from_push, take_more, take_all, length-drop, get_or-drop}
 use Rattle.octets.specs.Octets.{Octets, AreOctets, part}
 use Rattle.octets.proofs.Writing.{length_part}
-use Rattle.suite.specs.Laws.{Bounded, OctetsOf, Sealable, Openable, Heads, Opens, SealsTo, Keeps}
+use Rattle.suite.specs.Laws.{Sealable, Openable, Heads, Opens, SealsTo, Keeps}
 use Rattle.suite.specs.Meaning.{length_or_fault}
 use Rattle.suite_tests.specs.Plain.{plain, plain_seal, plain_head, plain_open}
 

@@ -1,13 +1,12 @@
 -- TKIP keeps the laws of a suite.
-use Rattle.std.specs.Prelude.{◌≡◌, ℕ, ◌+◌, ◌-◌, ◌*◌, ◌/◌, ◌%◌, ◌^◌, ◌<◌, ◌≤◌, true, ◌++◌, length, take, drop, Ok, Err, bit_or, slice_index_or, refl}
+use Rattle.std.specs.Prelude.{◌≡◌, ℕ, ◌+◌, ◌-◌, ◌*◌, ◌/◌, ◌%◌, ◌^◌, ◌<◌, ◌≤◌, true, ◌++◌, length, take, drop, Ok, bit_or, slice_index_or}
 use Rattle.std.proofs.Common.{sym, ap, subst, ◌∙◌, arith}
-use Rattle.std.specs.Int.Bits.{bit_and}
 use Rattle.std.proofs.lemmas.Nat.{and_le_r}
 use Rattle.std.specs.Str.{bytes_eq}
 use Rattle.std.proofs.ByRecursion.{All-append, All-drop, All-take}
 use Rattle.std.proofs.lemmas.Slice.Eq.{bytes_eq-Decides}
 use Rattle.std.proofs.lemmas.List.{length-append, length-drop, length-take-le, take_at, drop_at, take-append-drop}
-use Rattle.octets.specs.Octets.{Octets, AreOctets, little, little_octets, part}
+use Rattle.octets.specs.Octets.{Octets, AreOctets, little, part}
 use Rattle.octets.proofs.Numbers.{octet_at, AreOctets-little, little_from_octets, little-below}
 use Rattle.octets.proofs.Writing.{length_part}
 use Rattle.crc32.specs.Crc32.{check_octets}

@@ -6,7 +6,7 @@ use Rattle.std.proofs.lemmas.List.{append_assoc, length-append, take_at, drop_at
 use Rattle.octets.specs.Octets.{Octets, AreOctets, part, begins, written}
 use Rattle.octets.proofs.Writing.{put_mid_written, written_start, written_next, part_behind, written_over}
 use Rattle.frame.specs.Addresses.{address_at}
-use Rattle.rc4.specs.Rc4.{after, masked, scheduled}
+use Rattle.rc4.specs.Rc4.{after, masked}
 use Rattle.rc4.specs.declared.Rc4.{Rc4}
 use Rattle.rc4.proofs.Covering.{covered_twice, length-covered, octets-covered}
 use Rattle.rc4.proofs.Stream.{masked_split, length-masked}

@@ -1,6 +1,5 @@
-use Rattle.std.proofs.Common.{◌≡◌, ◌++◌, drop}
+use Rattle.std.proofs.Common.{◌≡◌, drop}
 use Rattle.std.specs.List.{flat_map}
-use Rattle.octets.specs.Octets.{Octets}
 use Rattle.michael.specs.Stages.{comes_to}
 use Rattle.michael.proofs.code_in_portions.Given as goal
 

@@ -1,6 +1,6 @@
 use Rattle.std.proofs.Common.{None, Option, ap}
 use Rattle.ends.specs.declared.places.Place.{Place}
-use Rattle.ends.specs.Holding.{Filling, End}
+use Rattle.ends.specs.Holding.{Filling}
 use Rattle.ends.proofs.Tables.{all_empty}
 use Rattle.ends.proofs.roles.State.new.Goals as goal
 

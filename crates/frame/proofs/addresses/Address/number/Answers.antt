@@ -1,4 +1,4 @@
-use Rattle.std.proofs.Common.{◌≡◌, length, sym, ap, ◌∙◌, arith, rules}
+use Rattle.std.proofs.Common.{◌≡◌, length, ap, arith, rules}
 use Rattle.octets.specs.Octets.{big}
 use Rattle.octets.proofs.Writing.{spelled}
 use Rattle.frame.proofs.addresses.Address.number.Goals as goal
