@@ -1,7 +1,7 @@
 -- AES-128 makes sixteen octets of each block of octets.
 use Rattle.std.proofs.Common.{◌≡◌, ℕ, zero, suc, ◌+◌, ◌/◌, ◌%◌, ◌<◌, Bool, T, ltb, List, [], ◌∷◌, ◌++◌, length, get_or, refl, ap, ◌∙◌, arith, ltb→lt}
 use lib.Bits.{bit_xor, xor_lt}
-use Rattle.std.specs.List.{range_with_len, AllByRecursion as All}
+use Rattle.std.specs.List.{range_with_len, AllByRecursion}
 use Rattle.std.proofs.ByRecursion.{All-map, All-weaker}
 use Rattle.octets.specs.Octets.{Octets, AreOctets, xored}
 use Rattle.ccm.proofs.Everywhere.{all_of}
@@ -109,23 +109,23 @@ unfolding round_key
 round_key_octets key zero all = all
 round_key_octets key (suc n) all = next_key_octets (rcon n) (round_key key n) (rcon-octet n) (round_key_octets key n all)
 
-get_or_octets : (ks : List Octets) (n : ℕ) → All AreOctets ks → AreOctets (get_or ks n [])
+get_or_octets : (ks : List Octets) (n : ℕ) → AllByRecursion AreOctets ks → AreOctets (get_or ks n [])
 get_or_octets [] n all = tt
 get_or_octets (k ∷ ks) zero all = all.0
 get_or_octets (k ∷ ks) (suc n) all = get_or_octets ks n all.1
 
-expanded-octets : (key : Octets) → AreOctets key → All AreOctets (expanded key)
+expanded-octets : (key : Octets) → AreOctets key → AllByRecursion AreOctets (expanded key)
 unfolding expanded
 expanded-octets key all =
     All-map AreOctets (round_key key) (range_with_len 0 11) (all_of (λ n. AreOctets (round_key key n)) (λ n. round_key_octets key n all) (range_with_len 0 11))
 
-rounds-octets : (ks : List Octets) (s : Octets) (n : ℕ) → All AreOctets ks → AreOctets s → AreOctets (rounds ks s n)
+rounds-octets : (ks : List Octets) (s : Octets) (n : ℕ) → AllByRecursion AreOctets ks → AreOctets s → AreOctets (rounds ks s n)
 unfolding rounds round add_round_key
 rounds-octets ks s zero keys all = all
 rounds-octets ks s (suc n) keys all =
     AreOctets-xored _ (get_or ks (suc n) []) (mix_columns_octets _ (shift_rows_octets _ (sub_bytes_octets _ (rounds-octets ks s n keys all)))) (get_or_octets ks (suc n) keys)
 
-encrypted-octets : (ks : List Octets) (b : Octets) → All AreOctets ks → AreOctets b → AreOctets (encrypted ks b)
+encrypted-octets : (ks : List Octets) (b : Octets) → AllByRecursion AreOctets ks → AreOctets b → AreOctets (encrypted ks b)
 unfolding encrypted last_round add_round_key
 encrypted-octets ks b keys all =
     let start = AreOctets-xored b (get_or ks 0 []) all (get_or_octets ks 0 keys) in

@@ -1,6 +1,6 @@
 -- What is sealed is octets where the cipher makes octets of octets.
 use Rattle.std.proofs.Common.{◌≡◌, ℕ, ◌-◌, ◌*◌, ◌<◌, Bool, true, false, cond, eqb, List, [], ◌∷◌, ◌++◌, length, take, replicate, Some, subst, arith}
-use Rattle.std.specs.List.{range_with_len, AllByRecursion as All}
+use Rattle.std.specs.List.{range_with_len, AllByRecursion}
 use Rattle.std.proofs.ByRecursion.{All-append, All-map, All-take}
 use Rattle.octets.specs.Octets.{Octets, AreOctets, big_octets, xored}
 use Rattle.ccm.proofs.Everywhere.{all_of}
@@ -22,14 +22,14 @@ unfolding block_of
 octets-block xs i all =
     AreOctets_part (16 * i) 16 (xs ++ replicate 16 0) (AreOctets-append xs (replicate 16 0) all zeros)
 
-octets-blocks : (xs : Octets) → AreOctets xs → All AreOctets (blocks xs)
+octets-blocks : (xs : Octets) → AreOctets xs → AllByRecursion AreOctets (blocks xs)
 octets-blocks xs all =
     All-map AreOctets (block_of xs) (range_with_len 0 (count_blocks xs)) (all_of (λ i. AreOctets (block_of xs i)) (λ i. octets-block xs i all) (range_with_len 0 (count_blocks xs)))
 
 octets-numbered : (flags : ℕ) (nonce : Octets) (n : ℕ) → flags < 256 → AreOctets nonce → AreOctets (numbered flags nonce n)
 octets-numbered flags nonce n small all = (small, AreOctets-append nonce (big_octets 2 n) all (AreOctets-big 2 n))
 
-octets-chained : (E : Octets → Octets) (x : Octets) (bs : List Octets) → KeepsOctets E → AreOctets x → All AreOctets bs → AreOctets (chained E x bs)
+octets-chained : (E : Octets → Octets) (x : Octets) (bs : List Octets) → KeepsOctets E → AreOctets x → AllByRecursion AreOctets bs → AreOctets (chained E x bs)
 unfolding chained
 octets-chained E x [] keeps all each = all
 octets-chained E x (b ∷ bs) keeps all each =
@@ -43,7 +43,7 @@ small_flags : (b : Bool) → cond b 0x19 0x59 < 256
 small_flags true = omega arith
 small_flags false = omega arith
 
-octets_authentication : (nonce additional message : Octets) → AreOctets nonce → AreOctets additional → AreOctets message → All AreOctets (authentication_blocks nonce additional message)
+octets_authentication : (nonce additional message : Octets) → AreOctets nonce → AreOctets additional → AreOctets message → AllByRecursion AreOctets (authentication_blocks nonce additional message)
 octets_authentication nonce additional message n a m =
     let none = eqb (length additional) 0 in
     let more = OctetsOf_either none [] (big_octets 2 (length additional) ++ additional) tt (AreOctets-append (big_octets 2 (length additional)) additional (AreOctets-big 2 (length additional)) a) in

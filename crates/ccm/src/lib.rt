@@ -5,7 +5,7 @@
 ghost use Rattle.std.specs.Prelude.{◌≡◌, ◌+◌, ◌-◌, ◌*◌, ◌/◌, ◌<◌, ◌≤◌, ◌∷◌, length, take, drop, is_some};
 ghost use Rattle.octets.specs.Octets.{Octets, written, begins, xored};
 ghost use Rattle.aes.specs.Aes.{aes128};
-ghost use Rattle.aes.specs.Words.{octets as word-octets};
+ghost use Rattle.aes.specs.Words.{octets as word_octets};
 ghost use Rattle.ccm.specs.Ccm.{block_of, blocks, numbered, counter_block, first_flags, measured, chained, cbc_mac, covered, ccm_seal, ccm_open, left_by_ccm_open, OpensExactly};
 ghost use Rattle.ccm.specs.Inner.{under, WholeBlocks, filled, plain};
 
@@ -14,7 +14,7 @@ use octets::{big, fill, put, same};
 
 // The block of an octet of flags, the nonce and a number.
 fn numbered_word(flags: u8, nonce: &[u8; 13], number: u16) -> u128
-    ensures { word-octets result ≡ numbered flags nonce.now number }
+    ensures { word_octets result ≡ numbered flags nonce.now number }
 {
     let [a, b, c, d, e, f, g, h, o, j, k, l, m] = *nonce;
     let [high, low] = number.to_be_bytes();
@@ -23,7 +23,7 @@ fn numbered_word(flags: u8, nonce: &[u8; 13], number: u16) -> u128
 
 // Counter block `i`, from counter block 0.
 fn counter_word(base: u128, i: u16) -> u128
-    ensures { (nonce : Octets) → length nonce ≡ 13 → word-octets base ≡ counter_block nonce 0 → word-octets result ≡ counter_block nonce i }
+    ensures { (nonce : Octets) → length nonce ≡ 13 → word_octets base ≡ counter_block nonce 0 → word_octets result ≡ counter_block nonce i }
 {
     base ^ (u128::from(i.swap_bytes()) << 112)
 }
@@ -31,7 +31,7 @@ fn counter_word(base: u128, i: u16) -> u128
 // A part of a block, which zeros fill up.
 fn filled_word(octets: &[u8]) -> u128
     requires { length octets.now ≤ 16 }
-    ensures { word-octets result ≡ filled octets.now }
+    ensures { word_octets result ≡ filled octets.now }
 {
     let mut block = [0u8; 16];
     put(&mut block, 0, octets);
@@ -41,7 +41,7 @@ fn filled_word(octets: &[u8]) -> u128
 // Block `i` of octets, which zeros follow.
 fn block_word(octets: &[u8], i: usize) -> u128
     requires { 16 * i ≤ length octets.now }
-    ensures { word-octets result ≡ block_of octets.now i }
+    ensures { word_octets result ≡ block_of octets.now i }
 {
     let at = 16 * i;
     if octets.len() - at < 16 {
@@ -52,7 +52,7 @@ fn block_word(octets: &[u8], i: usize) -> u128
 
 // Chains all blocks of octets from `start` on.
 fn chain(cipher: &Aes128, start: u128, octets: &[u8]) -> u128
-    ensures { word-octets result ≡ chained (under cipher.now) (word-octets start) (blocks octets.now) }
+    ensures { word_octets result ≡ chained (under cipher.now) (word_octets start) (blocks octets.now) }
 {
     let mut x = start;
     for i in 0..octets.len().div_ceil(16) {
@@ -64,7 +64,7 @@ fn chain(cipher: &Aes128, start: u128, octets: &[u8]) -> u128
 // Chains the additional data, if any, after its length.
 fn chain_additional(cipher: &Aes128, start: u128, additional: &[u8]) -> u128
     requires { length additional.now ≤ 30 }
-    ensures { word-octets result ≡ chained (under cipher.now) (word-octets start) (blocks (measured additional.now)) }
+    ensures { word_octets result ≡ chained (under cipher.now) (word_octets start) (blocks (measured additional.now)) }
 {
     let size = additional.len();
     if size == 0 {
@@ -79,7 +79,7 @@ fn chain_additional(cipher: &Aes128, start: u128, additional: &[u8]) -> u128
 // Chains the first block and the additional data.
 fn begin(cipher: &Aes128, nonce: &[u8; 13], additional: &[u8], size: u16) -> u128
     requires { length additional.now ≤ 30 }
-    ensures { word-octets result ≡ cbc_mac (under cipher.now) (numbered (first_flags additional.now) nonce.now size ∷ blocks (measured additional.now)) }
+    ensures { word_octets result ≡ cbc_mac (under cipher.now) (numbered (first_flags additional.now) nonce.now size ∷ blocks (measured additional.now)) }
 {
     let flags = if additional.len() == 0 { 0x19 } else { 0x59 };
     let first = cipher.encrypt_word(numbered_word(flags, nonce, size));
@@ -88,7 +88,7 @@ fn begin(cipher: &Aes128, nonce: &[u8; 13], additional: &[u8], size: u16) -> u12
 
 // The tail, from the CBC-MAC.
 fn tail(cipher: &Aes128, nonce: &[u8; 13], mac: u128) -> [u8; 8]
-    ensures { result ≡ take 8 (xored (word-octets mac) (under cipher.now (counter_block nonce.now 0))) }
+    ensures { result ≡ take 8 (xored (word_octets mac) (under cipher.now (counter_block nonce.now 0))) }
 {
     let [a, b, c, d, e, f, g, h, _, _, _, _, _, _, _, _] = store(
         mac ^ cipher.encrypt_word(numbered_word(1, nonce, 0)),
@@ -109,7 +109,7 @@ fn cover_last<const OPENING: bool>(
     requires some { 16 * (length text.now / 16) < length text.now }
     requires room { length text.now ≤ length out.old }
     ensures memory { out.new ≡ written (16 * (length text.now / 16)) (drop (16 * (length text.now / 16)) (covered (under cipher.now) nonce.now text.now)) out.old }
-    ensures mac { word-octets result ≡ under cipher.now (xored (word-octets mac) (block_of (plain OPENING (under cipher.now) nonce.now text.now) (length text.now / 16))) }
+    ensures mac { word_octets result ≡ under cipher.now (xored (word_octets mac) (block_of (plain OPENING (under cipher.now) nonce.now text.now) (length text.now / 16))) }
 {
     let i = text.len() / 16;
     let at = 16 * i;
@@ -140,7 +140,7 @@ fn cover<const OPENING: bool>(
     requires most { length text.now < 65536 }
     requires room { length text.now ≤ length out.old }
     ensures memory { out.new ≡ begins (covered (under cipher.now) nonce.now text.now) out.old }
-    ensures mac { word-octets result ≡ chained (under cipher.now) (word-octets start) (blocks (plain OPENING (under cipher.now) nonce.now text.now)) }
+    ensures mac { word_octets result ≡ chained (under cipher.now) (word_octets start) (blocks (plain OPENING (under cipher.now) nonce.now text.now)) }
 {
     let base = numbered_word(1, nonce, 0);
     let count = text.len() / 16;

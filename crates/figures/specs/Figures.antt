@@ -5,9 +5,9 @@ use Rattle.frame.specs.declared.addresses.Address.{Address}
 use Rattle.suite.specs.Meaning.{Meaning}
 use Rattle.michael.specs.Michael.{xswap, rotl, words, padded, heading}
 use Rattle.tkip.specs.Tkip.{tkip}
-use Rattle.tkip.specs.Tkip.{head_octets as tkip-head-octets}
+use Rattle.tkip.specs.Tkip.{head_octets as tkip_head_octets}
 use Rattle.ccmp.specs.Ccmp.{ccmp}
-use Rattle.ccmp.specs.Ccmp.{head_octets as ccmp-head-octets}
+use Rattle.ccmp.specs.Ccmp.{head_octets as ccmp_head_octets}
 use Rattle.ends.specs.declared.places.Place.{Place}
 use Rattle.ends.specs.declared.places.Place.TheVariants.{Pairwise}
 use Rattle.ends.specs.declared.roles.Role.{Role}
@@ -66,8 +66,8 @@ pub record WorkedFigures : Type 0 where
   pub three_octets : MakesWords 3 6
   pub four_octets : MakesWords 4 7
   -- the heads of one counter, under key ID 0 and 1
-  pub tkip_head : tkip-head-octets 0 0x010203040506 ≡ 0x05 ∷ 0x25 ∷ 0x06 ∷ 0x20 ∷ 0x04 ∷ 0x03 ∷ 0x02 ∷ 0x01 ∷ []
-  pub ccmp_head : ccmp-head-octets 1 0x010203040506 ≡ 0x06 ∷ 0x05 ∷ 0x00 ∷ 0x60 ∷ 0x04 ∷ 0x03 ∷ 0x02 ∷ 0x01 ∷ []
+  pub tkip_head : tkip_head_octets 0 0x010203040506 ≡ 0x05 ∷ 0x25 ∷ 0x06 ∷ 0x20 ∷ 0x04 ∷ 0x03 ∷ 0x02 ∷ 0x01 ∷ []
+  pub ccmp_head : ccmp_head_octets 1 0x010203040506 ≡ 0x06 ∷ 0x05 ∷ 0x00 ∷ 0x60 ∷ 0x04 ∷ 0x03 ∷ 0x02 ∷ 0x01 ∷ []
   -- two failures block where the second comes less than a minute after the first, or before it
   pub within_a_minute : BlocksUntil 1000 60999 (Some 120999)
   pub a_minute_apart : BlocksUntil 1000 61000 None

@@ -1,6 +1,6 @@
 -- One frame of a message arrives at the facing end: it is admitted, finds its place, opens, and is held or delivered.
 use Rattle.std.proofs.Common.{◌≡◌, ℕ, ◌+◌, ◌-◌, ◌*◌, ◌<◌, ◌≤◌, Bool, true, false, cond, not, eqb, ltb, leb, ◌⊎◌, List, [], ◌∷◌, ◌++◌, length, get_or, take, drop, Some, None, Ok, Err, Option, Result, sym, refl, ap, ◌∙◌, subst, inl, inr, arith}
-use Rattle.std.specs.List.{AllByRecursion as All}
+use Rattle.std.specs.List.{AllByRecursion}
 use Rattle.std.specs.Str.{bytes_eq}
 use Rattle.std.proofs.lemmas.List.{length-append, length-take, take_at, take_all, drop_at}
 use Rattle.std.proofs.lemmas.Slice.Eq.{bytes_eq-Decides}
@@ -62,7 +62,7 @@ differ_from : (b r : Bool) → r ≡ not b → differ (not b) r ≡ false
 differ_from true r h = h
 differ_from false r h = ap not h
 
-all_true : (bs : List Bool) → All (λ b. b ≡ true) bs → all bs ≡ true
+all_true : (bs : List Bool) → AllByRecursion (λ b. b ≡ true) bs → all bs ≡ true
 all_true [] h = refl
 all_true (b ∷ bs) h = cond-true b (all bs) false h.0 ∙ all_true bs h.1
 
@@ -119,7 +119,7 @@ module _ (p : Plan) (octets : Octets) (f : Filling) (i : ℕ) where
   in_turn (inl zero) = cond-true (eqb i 0) false _ (eq-eqb i 0 zero)
   in_turn (inr (k, next, is)) =
       let tests : List Bool = eqb (k + 1) i ∷ eqb (p.counter + k + 1) (p.counter + i) ∷ eqb p.sequence p.sequence ∷ same_address p.address1 p.address1 ∷ same_address p.address2 p.address2 ∷ same_address p.address3 p.address3 ∷ [] in
-      let each : All (λ b. b ≡ true) tests = (eq-eqb (k + 1) i next, (eq-eqb (p.counter + k + 1) (p.counter + i) (omega arith), (eq-eqb p.sequence p.sequence refl, (same_address_true p.address1 p.address1 refl, (same_address_true p.address2 p.address2 refl, (same_address_true p.address3 p.address3 refl, tt)))))) in
+      let each : AllByRecursion (λ b. b ≡ true) tests = (eq-eqb (k + 1) i next, (eq-eqb (p.counter + k + 1) (p.counter + i) (omega arith), (eq-eqb p.sequence p.sequence refl, (same_address_true p.address1 p.address1 refl, (same_address_true p.address2 p.address2 refl, (same_address_true p.address3 p.address3 refl, tt)))))) in
       let passes : continues f.partial (header_of p i) (p.counter + i) ≡ true = ap (λ o. continues o (header_of p i) (p.counter + i)) is ∙ all_true tests each in
       cond_falses (eqb i 0) (not (continues f.partial (header_of p i) (p.counter + i))) (ap not passes)
 

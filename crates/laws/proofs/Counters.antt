@@ -1,6 +1,6 @@
 -- Counters under one installation: those of frames differ, those of deliveries rise.
 use Rattle.std.proofs.Common.{◌≡◌, ℕ, suc, ◌<◌, ◌≤◌, Bool, true, false, cond, List, [], ◌∷◌, ◌++◌, map, length, Some, None, Option, sym, refl, ap, ◌∙◌, subst, arith}
-use Rattle.std.specs.List.{range_with_len, AllByRecursion as All}
+use Rattle.std.specs.List.{range_with_len, AllByRecursion}
 use Rattle.std.proofs.ByRecursion.{All-append, All-weaker}
 use Rattle.std.proofs.lemmas.List.{map-append}
 use Rattle.std.proofs.lemmas.Bool.{cond-true, cond-false}
@@ -34,13 +34,13 @@ pub record Moved (S : Suites) (p : Place) (f : Filling) (s : Step) : Type 0 wher
   pub counters : List ℕ
   pub reads : map (counter_in (suite_at S p)) (sent_under p s) ≡ map Some counters
   pub rises : Rise counters
-  pub low : All (λ c. f.send ≤ c) counters
-  pub high : All (λ c. c < next.send) counters
+  pub low : AllByRecursion (λ c. f.send ≤ c) counters
+  pub high : AllByRecursion (λ c. c < next.send) counters
   pub send_up : f.send ≤ next.send
   -- the counter of what it delivered lies between the two replay counters
   pub delivered_rises : Rise (delivered_under p s.answer)
-  pub above : All (λ c. f.replay < c) (delivered_under p s.answer)
-  pub below : All (λ c. c ≤ next.replay) (delivered_under p s.answer)
+  pub above : AllByRecursion (λ c. f.replay < c) (delivered_under p s.answer)
+  pub below : AllByRecursion (λ c. c ≤ next.replay) (delivered_under p s.answer)
   pub replay_up : f.replay ≤ next.replay
 
 -- places, read after a write
@@ -70,7 +70,7 @@ nothing_sent false = refl
 -- a step that neither sends nor delivers under p
 quiet : (S : Suites) (p : Place) (f next : Filling) (s : Step) → s.after.at p ≡ Some next → sent_under p s ≡ [] → delivered_under p s.answer ≡ [] → f.send ≡ next.send → f.replay ≡ next.replay → next.key ≡ f.key → next.address ≡ f.address → Moved S p f s
 quiet S p f next s stays unsent undelivered send replay key address =
-    record { next = next; stays = stays; key_same = key; address_same = address; counters = []; reads = ap (map (counter_in (suite_at S p))) unsent; rises = tt; low = tt; high = tt; send_up = omega arith; delivered_rises = subst Rise (sym undelivered) tt; above = subst (All (λ c. f.replay < c)) (sym undelivered) tt; below = subst (All (λ c. c ≤ next.replay)) (sym undelivered) tt; replay_up = omega arith }
+    record { next = next; stays = stays; key_same = key; address_same = address; counters = []; reads = ap (map (counter_in (suite_at S p))) unsent; rises = tt; low = tt; high = tt; send_up = omega arith; delivered_rises = subst Rise (sym undelivered) tt; above = subst (AllByRecursion (λ c. f.replay < c)) (sym undelivered) tt; below = subst (AllByRecursion (λ c. c ≤ next.replay)) (sym undelivered) tt; replay_up = omega arith }
 
 module _ (S : Suites) (keep : Keep S) (e : End) (proper : Proper S e) (p : Place) (f : Filling) (here : e.at p ≡ Some f) where
   moved_send : (s : Sending) (g : Filling) → OfOctets (Send s) → Sendable (suite_at S s.request.place) e s g → Moved S p f (step_by S e (Send s) (Sends s.request.place g (frames_for (suite_at S s.request.place) e s g)))
@@ -96,7 +96,7 @@ module _ (S : Suites) (keep : Keep S) (e : End) (proper : Proper S e) (p : Place
             counters = range_with_len g.send n;
             reads = ap (map (counter_in (suite_at S p))) (frames_back p S e s g frames h) ∙ ap (λ z. map (counter_in (suite_at S z)) frames) there ∙ frames_counters S keep e proper s fit g ok;
             rises = counting_rises g.send n;
-            low = subst (λ z. All (λ c. z.send ≤ c) (range_with_len g.send n)) (sym same) (counting_low g.send n);
+            low = subst (λ z. AllByRecursion (λ c. z.send ≤ c) (range_with_len g.send n)) (sym same) (counting_low g.send n);
             high = counting_high g.send n;
             send_up = let m : f.send ≡ g.send = ap (λ z. z.send) same in omega arith;
             delivered_rises = tt;
@@ -155,8 +155,8 @@ module _ (S : Suites) (keep : Keep S) (e : End) (proper : Proper S e) (p : Place
             high = tt;
             send_up = omega arith;
             delivered_rises = subst Rise (sym its) (tt, tt);
-            above = subst (All (λ c. f.replay < c)) (sym its) (omega arith, tt);
-            below = subst (All (λ c. c ≤ counter)) (sym its) (omega arith, tt);
+            above = subst (AllByRecursion (λ c. f.replay < c)) (sym its) (omega arith, tt);
+            below = subst (AllByRecursion (λ c. c ≤ counter)) (sym its) (omega arith, tt);
             replay_up = omega arith;
           }
   moved c (Fails q g fragment time) fit ok lasts = at (soon time e.failure) refl
@@ -184,7 +184,7 @@ module _ (S : Suites) (keep : Keep S) (p : Place) where
   next_moved : (c : Call) (e : End) (f : Filling) → e.at p ≡ Some f → Proper S e → OfOctets c → Lasts S p (step S e c) → Moved S p f (step S e c)
   next_moved c e f here proper fit lasts = moved S keep e proper p f here c (judge S e c) fit (sound S e c) lasts
 
-  pub under_sent : (later : List Call) (e : End) (f : Filling) → e.at p ≡ Some f → Proper S e → All OfOctets later → All (Lasts S p) (run S e later) → (counters : List ℕ) × (map (counter_in (suite_at S p)) (all_sent_under p (run S e later)) ≡ map Some counters) × Rise counters × All (λ c. f.send ≤ c) counters
+  pub under_sent : (later : List Call) (e : End) (f : Filling) → e.at p ≡ Some f → Proper S e → AllByRecursion OfOctets later → AllByRecursion (Lasts S p) (run S e later) → (counters : List ℕ) × (map (counter_in (suite_at S p)) (all_sent_under p (run S e later)) ≡ map Some counters) × Rise counters × AllByRecursion (λ c. f.send ≤ c) counters
   under_sent [] e f here proper fit stands = ([], refl, tt, tt)
   under_sent (c ∷ later) e f here proper fit stands =
       let m = next_moved c e f here proper fit.0 stands.0 in
@@ -198,7 +198,7 @@ module _ (S : Suites) (keep : Keep S) (p : Place) where
         All-append (λ c. f.send ≤ c) m.counters rest.0 m.low (All-weaker (λ c. m.next.send ≤ c) (λ c. f.send ≤ c) (λ x h. omega arith) rest.0 rest.3),
       )
 
-  pub under_delivered : (later : List Call) (e : End) (f : Filling) → e.at p ≡ Some f → Proper S e → All OfOctets later → All (Lasts S p) (run S e later) → Rise (all_delivered_under p (run S e later)) × All (λ c. f.replay < c) (all_delivered_under p (run S e later))
+  pub under_delivered : (later : List Call) (e : End) (f : Filling) → e.at p ≡ Some f → Proper S e → AllByRecursion OfOctets later → AllByRecursion (Lasts S p) (run S e later) → Rise (all_delivered_under p (run S e later)) × AllByRecursion (λ c. f.replay < c) (all_delivered_under p (run S e later))
   under_delivered [] e f here proper fit stands = (tt, tt)
   under_delivered (c ∷ later) e f here proper fit stands =
       let m = next_moved c e f here proper fit.0 stands.0 in
@@ -211,7 +211,7 @@ module _ (S : Suites) (keep : Keep S) (p : Place) where
       )
 
   -- the place stays filled, with the same key and address
-  pub under_end : (later : List Call) (e : End) (f : Filling) → e.at p ≡ Some f → Proper S e → All OfOctets later → All (Lasts S p) (run S e later) → (g : Filling) × ((final S e later).at p ≡ Some g) × (g.key ≡ f.key) × (g.address ≡ f.address)
+  pub under_end : (later : List Call) (e : End) (f : Filling) → e.at p ≡ Some f → Proper S e → AllByRecursion OfOctets later → AllByRecursion (Lasts S p) (run S e later) → (g : Filling) × ((final S e later).at p ≡ Some g) × (g.key ≡ f.key) × (g.address ≡ f.address)
   under_end [] e f here proper fit stands = (f, here, refl, refl)
   under_end (c ∷ later) e f here proper fit stands =
       let m = next_moved c e f here proper fit.0 stands.0 in

@@ -1,7 +1,7 @@
 -- A message that is sent under one installation is delivered as sent under the facing one.
 use Rattle.std.proofs.Common.{◌≡◌, ℕ, zero, suc, ◌+◌, ◌<◌, ◌≤◌, true, false, cond, not, List, map, length, Some, sym, refl, ap, ◌∙◌, subst, inl, arith}
 use mathlib.Core.Path.{transport}
-use Rattle.std.specs.List.{range_with_len, AllByRecursion as All}
+use Rattle.std.specs.List.{range_with_len, AllByRecursion}
 use Rattle.std.proofs.lemmas.Bool.{true≢false, false≢true, cond-true, not-true, not-false}
 use Rattle.octets.specs.Octets.{Octets}
 use Rattle.frame.specs.Addresses.{is_group}
@@ -133,7 +133,7 @@ positive (suc m) h = (m, refl)
 
 -- between two ends, whatever runs led to them
 module _ (S T : Suites) (keep : Keep S) (keep' : Keep T) (e e' : End) (proper : Proper S e) (proper' : Proper T e') (s : Sending) (fit : OfOctets (Send s)) (q : Place) (f g : Filling) (face : Face S T e e' s.request.place q f g) where
-  delivered_between : (n : ℕ) (coming : List Coming) → All OfOctets (map call_of coming) → (step S e (Send s)).answer ≡ Sent n → frames_coming coming ≡ sent_under s.request.place (step S e (Send s)) → All (Above (suite_at T q) e' q) (sent_under s.request.place (step S e (Send s))) → Undisturbed T q coming (run T e' (map call_of coming)) → AsSent (suite_at T q) q (destination_of e.role s.request.place s.request f) (source_of e.role e.own s.request) s.message 0 (sent_under s.request.place (step S e (Send s))) (frame_steps coming (run T e' (map call_of coming)))
+  delivered_between : (n : ℕ) (coming : List Coming) → AllByRecursion OfOctets (map call_of coming) → (step S e (Send s)).answer ≡ Sent n → frames_coming coming ≡ sent_under s.request.place (step S e (Send s)) → AllByRecursion (Above (suite_at T q) e' q) (sent_under s.request.place (step S e (Send s))) → Undisturbed T q coming (run T e' (map call_of coming)) → AsSent (suite_at T q) q (destination_of e.role s.request.place s.request f) (source_of e.role e.own s.request) s.message 0 (sent_under s.request.place (step S e (Send s))) (frame_steps coming (run T e' (map call_of coming)))
   unfolding frames_by
   delivered_between n coming fit-coming granted is above quiet =
       let here : Place = s.request.place in
@@ -162,7 +162,7 @@ module _ (S T : Suites) (keep : Keep S) (keep' : Keep T) (e e' : End) (proper : 
       let some : 1 ≤ length s.message = ok.some in
       let most : length s.message ≤ 2304 = ok.most in
       let one : 1 ≤ p.count = out.some in
-      let first : replay_of (e'.at q) < p.counter + 0 = (subst (All (Above M e' q)) sent above).0 (p.counter + 0) (counter_reads M keeps p key octets out 0 one) in
+      let first : replay_of (e'.at q) < p.counter + 0 = (subst (AllByRecursion (Above M e' q)) sent above).0 (p.counter + 0) (counter_reads M keeps p key octets out 0 one) in
       let before : g.replay < p.counter + 0 = subst (λ o. replay_of o < p.counter + 0) face.held_there first in
       let ready : Ready T q p key g.replay g.partial e' = record { proper = proper'; filling = g; held = face.held_there; aimed = aimed_at S T e e' s q f g proper'.single ok face; replay_is = refl; partial_is = refl } in
       let upto : 0 + suc count.0 ≡ p.count = omega (arith, count.1) in
@@ -177,7 +177,7 @@ same_destination Logger p r f g same = refl
 between : (S T : Suites) → Keep S → Keep T → (e e' : End) → Proper S e → Proper T e' → (role role' : Role) (own own' : Address) (i i' : Installing) (f g : Filling) → e.role ≡ role → e'.role ≡ role' → e.own ≡ own → e'.own ≡ own' →
     e.at i.place ≡ Some f → key_for (suite_at S i.place) f ≡ i.key → f.address ≡ i.address →
     e'.at i'.place ≡ Some g → key_for (suite_at T i'.place) g ≡ i'.key → g.address ≡ i'.address →
-    (s : Sending) (coming : List Coming) → OfOctets (Send s) → All OfOctets (map call_of coming) → Crossing S T role role' own own' e i e' i' s coming →
+    (s : Sending) (coming : List Coming) → OfOctets (Send s) → AllByRecursion OfOctets (map call_of coming) → Crossing S T role role' own own' e i e' i' s coming →
     AsSent (suite_at T i'.place) i'.place (destination_of role i.place s.request (installed i)) (source_of role own s.request) s.message 0 (sent_under i.place (step S e (Send s))) (frame_steps coming (run T e' (map call_of coming)))
 between S T keep keep' e e' proper proper' role role' own own' i i' f g is-role is-role' is-own is-own' held key address held' key' address' s coming fit fit-coming crossing =
     let facing = crossing.facing in
@@ -198,7 +198,7 @@ between S T keep keep' e e' proper proper' role role' own own' i i' f g is-role 
     transport (λ j. AsSent (suite_at T q) q (to j) (from j) s.message 0 (sent_under (under j) (step S e (Send s))) steps)
     (delivered_between S T keep keep' e e' proper proper' s fit q f g face crossing.count coming fit-coming crossing.granted
     (crossing.unaltered ∙ ap (λ p. sent_under p (step S e (Send s))) (sym under))
-    (subst (λ p. All (Above (suite_at T q) e' q) (sent_under p (step S e (Send s)))) (sym under) crossing.above)
+    (subst (λ p. AllByRecursion (Above (suite_at T q) e' q) (sent_under p (step S e (Send s)))) (sym under) crossing.above)
     crossing.undisturbed)
 
 pub sent_messages_are_delivered : (S T : Suites) → Keep S → Keep T → SentMessagesAreDelivered S T

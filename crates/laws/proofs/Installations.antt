@@ -1,6 +1,6 @@
 -- An installation while it stands: its place holds what was installed; the laws of its counters.
 use Rattle.std.proofs.Common.{◌≡◌, ℕ, List, [], ◌∷◌, ◌++◌, map, length, take, Some, ap, ◌∙◌, subst, arith}
-use Rattle.std.specs.List.{AllByRecursion as All}
+use Rattle.std.specs.List.{AllByRecursion}
 use Rattle.ends.specs.Places.{Suites, suite_at, Keep}
 use Rattle.ends.specs.Holding.{Filling, End, key_for, put}
 use Rattle.ends.specs.Calls.{Verdict, Installing}
@@ -17,7 +17,7 @@ use Rattle.laws.proofs.Reach.{Proper, proper-step, proper-final, proper_new, key
 use Rattle.laws.proofs.Rising.{rise_differ}
 use Rattle.laws.proofs.Counters.{put_same, under_sent, under_delivered, under_end}
 
-all_split : {A : Type 0} (P : A → Type 0) (xs ys : List A) → All P (xs ++ ys) → All P xs × All P ys
+all_split : {A : Type 0} (P : A → Type 0) (xs ys : List A) → AllByRecursion P (xs ++ ys) → AllByRecursion P xs × AllByRecursion P ys
 all_split P [] ys h = (tt, h)
 all_split P (x ∷ xs) ys h = let rest = all_split P xs ys h.1 in ((h.0, rest.0), rest.1)
 
@@ -39,8 +39,8 @@ granted-fills S e i (Holds p f part) ok h = absurd (let z : ◌≡◌ {A = ℕ} 
 granted-fills S e i (Delivers p f counter destination source message) ok h = absurd (let z : ◌≡◌ {A = ℕ} 0 1 = cc h in omega arith)
 granted-fills S e i (Fails p f fragment time) ok h = absurd (let z : ◌≡◌ {A = ℕ} 0 1 = cc h in omega arith)
 
-module _ (S : Suites) (keep : Keep S) (start : End) (proper : Proper S start) (x : Standing S start) (fit : All OfOctets (calls_in x)) where
-  fit_parts : All OfOctets x.earlier × All OfOctets (Install x.install ∷ x.later)
+module _ (S : Suites) (keep : Keep S) (start : End) (proper : Proper S start) (x : Standing S start) (fit : AllByRecursion OfOctets (calls_in x)) where
+  fit_parts : AllByRecursion OfOctets x.earlier × AllByRecursion OfOctets (Install x.install ∷ x.later)
   fit_parts = all_split OfOctets x.earlier (Install x.install ∷ x.later) fit
 
   filled-then : Filled S (begun x) x.install

@@ -1,6 +1,6 @@
--- All frames of a message arrive, with other calls between them: all but the last are held, the last is delivered.
+-- AllByRecursion frames of a message arrive, with other calls between them: all but the last are held, the last is delivered.
 use Rattle.std.proofs.Common.{◌≡◌, ℕ, zero, suc, ◌+◌, ◌*◌, ◌<◌, ◌≤◌, List, [], ◌∷◌, map, length, take, drop, Some, Option, sym, refl, ap, ◌∙◌, subst, inr, arith}
-use Rattle.std.specs.List.{range_with_len, AllByRecursion as All}
+use Rattle.std.specs.List.{range_with_len, AllByRecursion}
 use Rattle.std.proofs.lemmas.List.{take_at}
 use Rattle.octets.specs.Octets.{Octets, begins}
 use Rattle.suite.specs.Laws.{Codable, Keeps}
@@ -41,7 +41,7 @@ module _ (S : Suites) (q : Place) (keeps : Keeps (suite_at S q)) (p : Plan) (key
   abbrev Frames : ℕ → ℕ → List Octets
   Frames i n = map (frame_of (suite_at S q) p key octets) (range_with_len i n)
 
-  pub arrives : (coming : List Coming) (e : End) (i n : ℕ) (partial : Option Part) → Ready S q p key replay partial e → Carries p octets i partial → i + suc n ≡ p.count → frames_coming coming ≡ Frames i (suc n) → All OfOctets (map call_of coming) → Undisturbed S q coming (run S e (map call_of coming)) → AsSent (suite_at S q) q p.destination p.source text i (Frames i (suc n)) (frame_steps coming (run S e (map call_of coming)))
+  pub arrives : (coming : List Coming) (e : End) (i n : ℕ) (partial : Option Part) → Ready S q p key replay partial e → Carries p octets i partial → i + suc n ≡ p.count → frames_coming coming ≡ Frames i (suc n) → AllByRecursion OfOctets (map call_of coming) → Undisturbed S q coming (run S e (map call_of coming)) → AsSent (suite_at S q) q p.destination p.source text i (Frames i (suc n)) (frame_steps coming (run S e (map call_of coming)))
   arrives [] e i n partial r carries upto is fit quiet = absurd (let z : ◌≡◌ {A = ℕ} 0 1 = cc in omega arith)
   arrives (Other c ∷ coming) e i n partial r carries upto is fit quiet =
       arrives coming (step S e c).after i n partial (waits S q p key replay partial e r c (judge S e c) fit.0 (sound S e c) quiet.0) carries upto is fit.1 quiet.1

@@ -1,6 +1,6 @@
 -- What every end that a run reaches keeps: keys and addresses of octets, counters from 1 on, no peer in two places.
 use Rattle.std.proofs.Common.{◌≡◌, ℕ, zero, suc, ◌+◌, ◌<◌, ◌≤◌, Bool, true, false, cond, ◌⊎◌, List, [], ◌∷◌, length, take, drop, replicate, is_some, Some, None, Option, sym, refl, ap, ◌∙◌, subst, inl, inr, arith}
-use Rattle.std.specs.List.{AllByRecursion as All}
+use Rattle.std.specs.List.{AllByRecursion}
 use Rattle.std.proofs.lemmas.List.{take_at}
 use Rattle.std.proofs.lemmas.Bool.{true≢false, both_ways, cond-true, cond-false, cond_both, ltb-true, eq-eqb, cases_eq}
 use Rattle.frame.specs.Addresses.{number, is_group}
@@ -230,7 +230,7 @@ proper-after S e c v fit ok proper =
 pub proper-step : (S : Suites) (e : End) (c : Call) → OfOctets c → Proper S e → Proper S (step S e c).after
 proper-step S e c fit proper = proper-after S e c (judge S e c) fit (sound S e c) proper
 
-pub proper-final : (S : Suites) (calls : List Call) (e : End) → All OfOctets calls → Proper S e → Proper S (final S e calls)
+pub proper-final : (S : Suites) (calls : List Call) (e : End) → AllByRecursion OfOctets calls → Proper S e → Proper S (final S e calls)
 proper-final S [] e fit proper = proper
 proper-final S (c ∷ calls) e fit proper = proper-final S calls (step S e c).after fit.1 (proper-step S e c fit.0 proper)
 

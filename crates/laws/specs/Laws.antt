@@ -1,6 +1,6 @@
 -- The laws over whole runs of an end that was new: whatever comes to it, in whatever order, granted or refused.
 use Rattle.std.specs.Prelude.{◌≡◌, ℕ, List, map, Some}
-use Rattle.std.specs.List.{AllByRecursion as All}
+use Rattle.std.specs.List.{AllByRecursion}
 use Rattle.frame.specs.declared.addresses.Address.{Address}
 use Rattle.ends.specs.declared.roles.Role.{Role}
 use Rattle.ends.specs.Places.{Suites, suite_at}
@@ -15,7 +15,7 @@ use Rattle.laws.specs.Words.{Station, OfOctets, remaining, calls_of, Standing, c
 abbrev pub CountersOfFramesDiffer : Suites → Type 0
 CountersOfFramesDiffer S =
     (role : Role) (own : Address) → Station own →
-    (x : Standing S (new role own)) → All OfOctets (calls_in x) →
+    (x : Standing S (new role own)) → AllByRecursion OfOctets (calls_in x) →
     let place = x.install.place in
     (counters : List ℕ) × (map (counter_in (suite_at S place)) (all_sent_under place (steps_under x)) ≡ map Some counters) × Differ counters
 
@@ -23,7 +23,7 @@ CountersOfFramesDiffer S =
 abbrev pub CountersOfDeliveriesRise : Suites → Type 0
 CountersOfDeliveriesRise S =
     (role : Role) (own : Address) → Station own →
-    (x : Standing S (new role own)) → All OfOctets (calls_in x) →
+    (x : Standing S (new role own)) → AllByRecursion OfOctets (calls_in x) →
     Rise (all_delivered_under x.install.place (steps_under x))
 
 -- Strike out every refused call, except those whose code failed: each call that remains is answered as before, leaves the
@@ -42,9 +42,9 @@ RefusedCallsLeaveNoTrace S =
 abbrev pub SentMessagesAreDelivered : Suites → Suites → Type 0
 SentMessagesAreDelivered S T =
     (role role' : Role) (own own' : Address) → Station own → Station own' →
-    (x : Standing S (new role own)) → All OfOctets (calls_in x) →
-    (y : Standing T (new role' own')) → All OfOctets (calls_in y) →
-    (s : Sending) (coming : List Coming) → OfOctets (Send s) → All OfOctets (map call_of coming) →
+    (x : Standing S (new role own)) → AllByRecursion OfOctets (calls_in x) →
+    (y : Standing T (new role' own')) → AllByRecursion OfOctets (calls_in y) →
+    (s : Sending) (coming : List Coming) → OfOctets (Send s) → AllByRecursion OfOctets (map call_of coming) →
     Crossing S T role role' own own' (end_of x) x.install (end_of y) y.install s coming →
     let here = x.install.place in
     let there = y.install.place in

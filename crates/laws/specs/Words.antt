@@ -1,7 +1,7 @@
 -- The words of the laws over runs: what comes to an end, an installation while it stands, frames and counters, two ends
 -- that face each other.
 use Rattle.std.specs.Prelude.{◌≡◌, ℕ, ◌+◌, ◌<◌, ◌≤◌, Bool, true, false, cond, not, List, [], ◌∷◌, ◌++◌, map, length, take, drop, Some, None, Ok, Err, Option, Result, ◌==◌, ◌≢◌}
-use Rattle.std.specs.List.{AllByRecursion as All}
+use Rattle.std.specs.List.{AllByRecursion}
 use Rattle.octets.specs.Octets.{Octets, AreOctets, part}
 use Rattle.frame.specs.Addresses.{number, is_group}
 use Rattle.frame.specs.Headers.{header_length}
@@ -89,7 +89,7 @@ pub record Standing (S : Suites) (start : End) : Type 0 where
   pub install : Installing
   pub later : List Call
   pub granted : (step S (final S start earlier) (Install install)).answer ≡ Granted
-  pub stands : All (Lasts S install.place) (run S (step S (final S start earlier) (Install install)).after later)
+  pub stands : AllByRecursion (Lasts S install.place) (run S (step S (final S start earlier) (Install install)).after later)
 
 -- all calls of the run
 abbrev pub calls_in : {S : Suites} {start : End} → Standing S start → List Call
@@ -154,12 +154,12 @@ all_delivered_under p (s ∷ steps) = delivered_under p s.answer ++ all_delivere
 -- no two are the same
 abbrev pub Differ : List ℕ → Type 0
 Differ [] = Unit {0}
-Differ (x ∷ xs) = All (λ y. x ≢ y) xs × Differ xs
+Differ (x ∷ xs) = AllByRecursion (λ y. x ≢ y) xs × Differ xs
 
 -- each is below all that follow
 abbrev pub Rise : List ℕ → Type 0
 Rise [] = Unit {0}
-Rise (x ∷ xs) = All (λ y. x < y) xs × Rise xs
+Rise (x ∷ xs) = AllByRecursion (λ y. x < y) xs × Rise xs
 
 -- installations that face each other
 
@@ -288,5 +288,5 @@ pub record Crossing (S T : Suites) (role role' : Role) (own own' : Address) (her
   pub count : ℕ
   pub granted : (step S here (Send s)).answer ≡ Sent count
   pub unaltered : frames_coming coming ≡ sent_under i.place (step S here (Send s))
-  pub above : All (Above (suite_at T i'.place) there i'.place) (sent_under i.place (step S here (Send s)))
+  pub above : AllByRecursion (Above (suite_at T i'.place) there i'.place) (sent_under i.place (step S here (Send s)))
   pub undisturbed : Undisturbed T i'.place coming (run T there (map call_of coming))

@@ -1,13 +1,13 @@
 -- Octets in memory: which numbers they are, and what a write leaves.
 use Rattle.std.specs.Prelude.{ℕ, zero, suc, ◌+◌, ◌*◌, ◌/◌, ◌%◌, ◌<◌, List, [], ◌∷◌, ◌++◌, reverse, length, take, drop, bit_xor}
-use Rattle.std.specs.List.{AllByRecursion as All}
+use Rattle.std.specs.List.{AllByRecursion}
 
 abbrev pub Octets : Type 0
 Octets = List ℕ
 
 -- a list of numbers is one of octets where each is below 256
 abbrev pub AreOctets : Octets → Type 0
-AreOctets xs = All (λ x. x < 256) xs
+AreOctets xs = AllByRecursion (λ x. x < 256) xs
 
 -- the number that octets write, the least significant first, and the most significant first
 abbrev pub little : Octets → ℕ
