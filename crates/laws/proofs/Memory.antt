@@ -10,7 +10,7 @@ use Rattle.ends.specs.Calls.{Sending}
 use Rattle.ends.specs.Calls.Call.{Send}
 use Rattle.ends.specs.Calls.Verdict.{Sends}
 use Rattle.ends.specs.Sends.{joined, spans}
-use Rattle.ends.specs.Steps.{step_by}
+use Rattle.ends.specs.Steps.{rows_begin, step_by}
 use Rattle.laws.specs.Words.{cut_out, sent_under}
 
 length-spans : (offset : ℕ) (frames : List Octets) → length (spans offset frames) ≡ length frames
@@ -33,6 +33,6 @@ cut_spans (x ∷ frames) offset front rest memory long is =
 
 pub frames_back : (p : Place) (S : Suites) (e : End) (s : Sending) (f : Filling) (frames : List Octets) → same_place p s.request.place ≡ true → sent_under p (step_by S e (Send s) (Sends s.request.place f frames)) ≡ frames
 frames_back p S e s f frames here =
-    cond-true (same_place p s.request.place) (cut_out (take (length frames) (begins (spans 0 frames) s.index)) (begins (joined frames) s.frames)) [] here
+    cond-true (same_place p s.request.place) (cut_out (take (length frames) (rows_begin (spans 0 frames) s.index)) (begins (joined frames) s.frames)) [] here
     ∙ ap (λ xs. cut_out xs (begins (joined frames) s.frames)) (take_at (spans 0 frames) _ (length frames) (length-spans 0 frames))
     ∙ cut_spans frames 0 [] _ (begins (joined frames) s.frames) refl refl

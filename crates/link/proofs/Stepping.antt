@@ -18,7 +18,7 @@ use Rattle.ends.specs.Calls.Answer.{Sent, Came}
 use Rattle.ends.specs.Checks.{then, settled}
 use Rattle.ends.specs.Sends.{judge_send, joined, spans}
 use Rattle.ends.specs.Arrivals.{admitted, suite_for, over_suite, coded_suites, judge_arrive}
-use Rattle.ends.specs.Steps.{answer, after, frames_sent, message_delivered, memories_of_send, memories_of_arrival, wiped, IsStep}
+use Rattle.ends.specs.Steps.{rows_begin, answer, after, frames_sent, message_delivered, memories_of_send, memories_of_arrival, wiped, IsStep}
 use Rattle.sending.specs.Sent.{Leaves}
 use Rattle.arriving.specs.Outcomes.{Arrives}
 
@@ -26,7 +26,7 @@ pub send-step : (S : Suites) (e e' : End) (s : Sending) (M : Meaning) (r : Resul
 send-step S e e' s M r frames index working over did wipes =
     let back = sym over in
     let frames-are = did.frames ∙ ap (λ (N : Meaning). begins (joined (frames_sent (judge_send N e s))) s.frames) back in
-    let index_is = did.index ∙ ap (λ (N : Meaning). begins (spans 0 (frames_sent (judge_send N e s))) s.index) back in
+    let index_is = did.index ∙ ap (λ (N : Meaning). rows_begin (spans 0 (frames_sent (judge_send N e s))) s.index) back in
     record {
       answered = did.answered ∙ ap (λ (N : Meaning). answer e (judge_send N e s)) back;
       holds = did.holds S ∙ ap (λ (N : Meaning). after S e (judge_send N e s)) back;

@@ -12,7 +12,7 @@ use Rattle.ends.specs.Calls.Verdict.{Sends}
 use Rattle.ends.specs.Calls.Answer.{Sent}
 use Rattle.ends.specs.Checks.{then, settled}
 use Rattle.ends.specs.Sends.{frame_of, frames_of, coded, frames_by, judge_send, joined, spans}
-use Rattle.ends.specs.Steps.{answer, after, frames_sent, next_sequence, sent_from}
+use Rattle.ends.specs.Steps.{rows_begin, answer, after, frames_sent, next_sequence, sent_from}
 use Rattle.sending.specs.declared.plans.Outgoing.{Outgoing}
 use Rattle.sending.specs.Outgoings.{frames_from}
 use Rattle.sending.specs.Sent.{used, having_sent, Leaves}
@@ -34,7 +34,7 @@ module _ (M : Meaning) (e : End) (s : Sending) where
         answered = sym (ap (answer e) v);
         holds = λ S. sym (ap (after S e) v);
         frames = sym (ap (λ v. begins (joined (frames_sent v)) s.frames) v);
-        index = sym (ap (λ v. begins (spans 0 (frames_sent v)) s.index) v);
+        index = sym (ap (λ v. rows_begin (spans 0 (frames_sent v)) s.index) v);
       }
 
   module _ (o : Outgoing) (w : Grants M.sizes e s o) where
@@ -52,12 +52,12 @@ module _ (M : Meaning) (e : End) (s : Sending) where
     same_end n =
         ap (λ (f : Option Filling). record { role = e.role; own = e.own; at = put e.at s.request.place (used f n); sequence = next_sequence e.sequence; failure = e.failure; block = e.block }) w.fills
 
-    pub leaves-granted : (e' : End) (frames : Octets) (index : List Span) → e' ≡ having_sent e s.request.place o.plan.count → frames ≡ begins (joined (frames_from M o s.message)) s.frames → index ≡ begins (spans 0 (frames_from M o s.message)) s.index → Leaves (judge_send M e s) e e' (Ok o.plan.count) s.frames frames s.index index
+    pub leaves-granted : (e' : End) (frames : Octets) (index : List Span) → e' ≡ having_sent e s.request.place o.plan.count → frames ≡ begins (joined (frames_from M o s.message)) s.frames → index ≡ rows_begin (spans 0 (frames_from M o s.message)) s.index → Leaves (judge_send M e s) e e' (Ok o.plan.count) s.frames frames s.index index
     leaves-granted e' frames index sent laid rows =
         let v = judged (Ok (w.fill, o.plan)) w.is_planned in
         record {
           answered = ap (λ n. Sent n) same_count ∙ sym (ap (answer e) v);
           holds = λ S. sent ∙ same_end o.plan.count ∙ ap (sent_from e s.request.place w.fill) same_count ∙ sym (ap (after S e) v);
           frames = laid ∙ ap (λ (l : List Octets). begins (joined l) s.frames) same_frames ∙ sym (ap (λ v. begins (joined (frames_sent v)) s.frames) v);
-          index = rows ∙ ap (λ (l : List Octets). begins (spans 0 l) s.index) same_frames ∙ sym (ap (λ v. begins (spans 0 (frames_sent v)) s.index) v);
+          index = rows ∙ ap (λ (l : List Octets). rows_begin (spans 0 l) s.index) same_frames ∙ sym (ap (λ v. rows_begin (spans 0 (frames_sent v)) s.index) v);
         }

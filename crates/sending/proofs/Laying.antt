@@ -12,6 +12,7 @@ use Rattle.ends.specs.declared.requests.Plan.{Plan}
 use Rattle.ends.specs.declared.requests.Span.{Span}
 use Rattle.ends.specs.Sends.{header_of, piece_of, frame_of, joined, spans}
 use Rattle.sending.proofs.Cutting.{length-piece}
+use Rattle.ends.specs.Steps.{rows_begin}
 
 -- what begins a memory is read back
 pub take-begun : (n : ℕ) (xs old now : Octets) → length xs ≡ n → now ≡ begins xs old → take n now ≡ xs
@@ -52,7 +53,7 @@ length-spans at [] = refl
 length-spans at (y ∷ ys) = ap suc (length-spans (at + length y) ys)
 
 -- one element more behind those that begin a list
-begins-set : {X : Type 0} (xs old : List X) (y : X) (i : ℕ) → length xs ≡ i → i < length old → set (begins xs old) i y ≡ begins (xs ++ (y ∷ [])) old
+begins-set : (xs old : List Span) (y : Span) (i : ℕ) → length xs ≡ i → i < length old → set (rows_begin xs old) i y ≡ rows_begin (xs ++ (y ∷ [])) old
 begins-set xs old y i long inside =
     let rest : drop (length xs) old ≡ get_or old (length xs) y ∷ drop (length xs + 1) old = drop_more old (length xs) y (omega arith) in
     ap (λ t. set (xs ++ t) i y) rest
@@ -66,7 +67,7 @@ pub record Laid (f : ℕ → Octets) (k m size : ℕ) (old : Octets) (old-index 
   pub far : offset ≡ length (joined (map f (range_with_len 0 i)))
   pub reckoned : offset ≡ i * k + min (i * m) size
   pub frames : memory ≡ begins (joined (map f (range_with_len 0 i))) old
-  pub places : index ≡ begins (spans 0 (map f (range_with_len 0 i))) old-index
+  pub places : index ≡ rows_begin (spans 0 (map f (range_with_len 0 i))) old-index
 
 -- and that there is room for frame i, if it is one of n
 pub record Written (f : ℕ → Octets) (k m n : ℕ) (octets old : Octets) (old-index : List Span) (i offset : ℕ) (memory : Octets) (index : List Span) : Type 0 where
@@ -122,5 +123,5 @@ module _ (f : ℕ → Octets) (k m n : ℕ) (octets old : Octets) (old-index : L
         places =
             ap (λ t. set t i (span offset size)) w.places
             ∙ begins-set (spans 0 before) old-index (span offset size) i count enough
-            ∙ ap (λ t. begins t old-index) (sym row);
+            ∙ ap (λ t. rows_begin t old-index) (sym row);
       })

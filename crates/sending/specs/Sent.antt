@@ -9,7 +9,7 @@ use Rattle.ends.specs.Holding.{Filling, End, put, sent_on}
 use Rattle.ends.specs.Calls.{Verdict, told}
 use Rattle.ends.specs.Calls.Answer.{Sent}
 use Rattle.ends.specs.Sends.{joined, spans}
-use Rattle.ends.specs.Steps.{answer, after, frames_sent, next_sequence}
+use Rattle.ends.specs.Steps.{rows_begin, answer, after, frames_sent, next_sequence}
 
 -- the next counter of a place
 abbrev pub next_counter : Option Filling → ℕ
@@ -31,4 +31,4 @@ pub record Leaves (v : Verdict) (e e' : End) (r : Result ℕ Refusal) (old-frame
   pub answered : told Sent r ≡ answer e v
   pub holds : (S : Suites) → e' ≡ after S e v
   pub frames : new-frames ≡ begins (joined (frames_sent v)) old-frames
-  pub index : new-index ≡ begins (spans 0 (frames_sent v)) old-index
+  pub index : new-index ≡ rows_begin (spans 0 (frames_sent v)) old-index

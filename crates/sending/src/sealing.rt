@@ -5,6 +5,7 @@ ghost use Rattle.frame.specs.Headers.{header_length};
 ghost use Rattle.suite.specs.Meaning.{longest_piece};
 ghost use Rattle.ends.specs.Sends.{header_of, piece_of, frame_of, frames_of, coded, room, joined, spans};
 ghost use Rattle.sending.specs.Outgoings.{Fits, Ready, frames_from};
+ghost use Rattle.ends.specs.Steps.{rows_begin};
 
 use crate::plans::{Outgoing, direction};
 use ends::{Plan, Span};
@@ -93,7 +94,7 @@ fn write_frames<S: Suite>(
     requires frames_room { room S.Suite.means.sizes plan.now.count (length octets.now) ≤ length frames.old }
     requires index_room { plan.now.count ≤ length index.old }
     ensures frames { frames.new ≡ begins (joined (frames_of S.Suite.means plan.now key.now octets.now)) frames.old }
-    ensures index { index.new ≡ begins (spans 0 (frames_of S.Suite.means plan.now key.now octets.now)) index.old }
+    ensures index { index.new ≡ rows_begin (spans 0 (frames_of S.Suite.means plan.now key.now octets.now)) index.old }
 {
     let mut offset = 0;
     for i in 0..plan.count {
@@ -134,7 +135,7 @@ pub fn carry_out<S: Suite>(
 )
     requires ready { Ready S.Suite.means.sizes outgoing.now.plan (length message.now) (length frames.old) (length index.old) (length working.old) }
     ensures frames { frames.new ≡ begins (joined (frames_from S.Suite.means outgoing.now message.now)) frames.old }
-    ensures index { index.new ≡ begins (spans 0 (frames_from S.Suite.means outgoing.now message.now)) index.old }
+    ensures index { index.new ≡ rows_begin (spans 0 (frames_from S.Suite.means outgoing.now message.now)) index.old }
 {
     let sizes = S::sizes();
     let key_length = sizes.key;

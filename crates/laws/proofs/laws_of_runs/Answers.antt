@@ -7,4 +7,4 @@ use Rattle.laws.proofs.laws_of_runs.Goals as goal
 pub returns : goal.returns
 returns g c =
     let keep = both_keep _ _ g.met.P.Suite.keeps g.met.G.Suite.keeps in
-    record { counters-differ = counters_of_frames_differ _ keep; deliveries-rise = counters_of_deliveries_rise _ keep; refusals-leave-no-trace = refused_calls_leave_no_trace _; delivered-as-sent = λ T other. sent_messages_are_delivered _ T keep other; sent-to-here = λ T other. sent_messages_are_delivered T _ other keep }
+    record { counters_differ = counters_of_frames_differ _ keep; deliveries_rise = counters_of_deliveries_rise _ keep; refusals_leave_no_trace = refused_calls_leave_no_trace _; delivered_as_sent = λ T other. sent_messages_are_delivered _ T keep other; sent_to_here = λ T other. sent_messages_are_delivered T _ other keep }

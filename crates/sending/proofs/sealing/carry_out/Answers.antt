@@ -4,6 +4,7 @@ use Rattle.ends.specs.Sends.{coded, frames_of, joined, spans}
 use Rattle.sending.specs.Outgoings.{frames_from}
 use Rattle.sending.proofs.Laying.{take-begun}
 use Rattle.sending.proofs.sealing.carry_out.Goals as goal
+use Rattle.ends.specs.Steps.{rows_begin}
 
 pub returns : goal.returns
 returns g c =
@@ -20,5 +21,5 @@ returns g c =
     let same : frames_of M p key (take (length message + z.code - 0) c.write_coded.new.working) ≡ frames_from M c.args.outgoing.now message = ap (frames_of M p key) is-coded ∙ ap (λ k. frames_of M p k (coded M p k message)) is_key in
     record {
       frames = subst (λ (l : List Octets). c.write_frames.new.frames ≡ begins (joined l) c.args.frames.now) same c.write_frames.ensures.frames;
-      index = subst (λ (l : List Octets). c.write_frames.new.index ≡ begins (spans 0 l) c.args.index.now) same c.write_frames.ensures.index;
+      index = subst (λ (l : List Octets). c.write_frames.new.index ≡ rows_begin (spans 0 l) c.args.index.now) same c.write_frames.ensures.index;
     }
