@@ -1,6 +1,4 @@
 // What else may come to an end: frames that nobody it knows has sent.
-use crc32::check_octets;
-use std::alloc::AllocError;
 
 // A frame as another station would have sent it: the last octet of Address 2 differs.
 pub fn from_a_stranger(frame: &[u8]) -> [u8; 100] {

@@ -1,9 +1,10 @@
 // The story: what takes place on the link, told in plain words.
 #![tactic(auto)]
 
+mod air;
+mod forging;
 mod new_spring;
 mod old_spring;
-mod outward;
 mod stations;
 mod telling;
 

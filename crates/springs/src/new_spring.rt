@@ -1,5 +1,5 @@
 // A new spring: its logger and its base speak CCMP.
-use crate::outward::{Air, send_and_tell};
+use crate::air::{Air, send_and_tell};
 use crate::stations::{CCMP_KEY, EVERYONE, FAR_END, NEW_BASE, NEW_LOGGER, TKIP_KEY};
 use crate::telling::tell_granted;
 use ccmp::Ccmp;

@@ -1,5 +1,5 @@
 // An old spring: its logger and its base speak TKIP.
-use crate::outward::{Air, send_and_tell};
+use crate::air::{Air, send_and_tell};
 use crate::stations::{BASE, EVERYONE, FAR_END, GROUP, LOGGER, TKIP_KEY};
 use crate::telling::tell_granted;
 use ccmp::Ccmp;

@@ -73,6 +73,7 @@ pub fn tell_frames<S: Suite>(
 fn ground(refusal: &Refusal) -> &'static str {
     match refusal {
         Refusal::NoSuchPlace => "a logger does not speak to a group",
+        Refusal::PlaceEmpty => "nothing is installed there",
         Refusal::SuiteBlocked => "the suite is blocked",
         Refusal::ArrivalBlocked => "the suite is blocked",
         Refusal::NotForThisEnd => "it is not for this end",
