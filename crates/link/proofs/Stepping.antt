@@ -1,5 +1,5 @@
 -- What took place over one suite is a step of the whole end.
-use Rattle.std.proofs.Common.{◌≡◌, ℕ, Bool, true, false, List, length, Ok, Err, Result, sym, refl, ap, ◌∙◌}
+use Rattle.std.proofs.Common.{◌≡◌, ℕ, Bool, true, false, List, length, Ok, Err, Result, sym, ap, ◌∙◌}
 use Rattle.std.proofs.lemmas.Bool.{cond-true, cond-false}
 use Rattle.octets.specs.Octets.{Octets, begins}
 use Rattle.frame.specs.Addresses.{is_group}
