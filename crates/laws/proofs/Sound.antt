@@ -74,16 +74,16 @@ empty_place (Some f) h = absurd (true≢false h)
 sound_install : (S : Suites) (e : End) (i : Installing) → Sound S e (Install i) (judge_install (suite_at S i.place).sizes e i)
 unfolding judge_install
 sound_install S e i =
-    first_walk (λ o. Sound S e (Install i) (settled o)) (λ r. tt) (install_checks (suite_at S i.place).sizes e i) (Fills i.place (installed i)) (λ h.
+    first_walk (λ o. Sound S e (Install i) (settled o)) (λ r. tt) (install_checks (suite_at S i.place).sizes e i) (Fills i.place (installed i)) (λ passed.
     record {
       installing = i;
       call_is = refl;
       place_is = refl;
       filling_is = refl;
-      key_long = eqb-true (length i.key) (suite_at S i.place).sizes.key (not-false (eqb (length i.key) (suite_at S i.place).sizes.key) h.1.1.1.1.0);
-      free = empty_place (e.at i.place) h.1.1.1.1.1.1.1.0;
-      real = not-false (exists i.place) h.1.0;
-      new_peer = h.1.1.1.1.1.1.1.1.0;
+      key_long = eqb-true (length i.key) (suite_at S i.place).sizes.key (not-false (eqb (length i.key) (suite_at S i.place).sizes.key) passed.1.1.1.1.0);
+      free = empty_place (e.at i.place) passed.1.1.1.1.1.1.1.0;
+      real = not-false (exists i.place) passed.1.0;
+      new_peer = passed.1.1.1.1.1.1.1.1.0;
     })
 
 sound_remove : (S : Suites) (e : End) (p : Place) → Sound S e (Remove p) (judge_remove e p)
@@ -93,7 +93,7 @@ sound_remove S e p = first_walk (λ o. Sound S e (Remove p) (settled o)) (λ r. 
 sound_send : (S : Suites) (e : End) (s : Sending) → Sound S e (Send s) (judge_send (suite_at S s.request.place) e s)
 unfolding judge_send
 sound_send S e s =
-    first_then_walk P (λ r. tt) (request_checks z e q) _ (λ h.
+    first_then_walk P (λ r. tt) (request_checks z e q) _ (λ passed.
     then_walk P (λ r. tt) (or_refuse PlaceEmpty (e.at q.place)) _ (λ f k.
     first_then_walk P (λ r. tt) (length_checks z size piece) _ (λ l.
     first_walk P (λ r. tt) (supply_checks z size count f.send (length s.frames) (length s.index) (length s.working)) _ (λ m. (
@@ -103,9 +103,9 @@ sound_send S e s =
       refl,
       record {
         held = filled PlaceEmpty (e.at q.place) f k;
-        real = not-false (exists q.place) h.1.0;
-        to_pairwise = h.1.1.0;
-        to_group = h.1.1.1.1.0;
+        real = not-false (exists q.place) passed.1.0;
+        to_pairwise = passed.1.1.0;
+        to_group = passed.1.1.1.1.0;
         some = ltb-false size 1 l.0;
         most = ltb-false 2304 size l.1.0;
         wide = ltb-false piece 64 l.1.1.1.0;

@@ -4,6 +4,6 @@
 #[cfg(test)]
 mod ends_at_hand;
 #[cfg(test)]
-mod installing;
+mod install_cases;
 #[cfg(test)]
-mod sending;
+mod send_cases;
