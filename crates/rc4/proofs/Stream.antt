@@ -100,33 +100,6 @@ module _ (s : Rc4) (xs zs : List ℕ) (i n k : ℕ) (h : i + n ≤ length xs) (e
   pub last_piece : last (i + n) (after n s) then ≡ last i s xs
   last_piece = ap (λ l. after (length l) (after n s)) behind ∙ after_split s (drop i xs) n within
 
--- The first m octets hold ys, and then those behind them zs. The checker writes k for m, as m - 0.
-module _ (s t : Rc4) (xs ys zs : List ℕ) (m k : ℕ) (h : m ≤ length xs) (e : k ≡ m) (first : ys ≡ masked s (take k xs)) (between : t ≡ after (length (take k xs)) s) where
-  abbrev mid : List ℕ
-  mid = ys ++ drop k xs
-
-  front : ys ≡ masked s (take m xs)
-  front = first ∙ ap (λ n. masked s (take n xs)) e
-
-  middle : t ≡ after m s
-  middle = between ∙ ap (λ n. after (length (take n xs)) s) e ∙ ap (λ n. after n s) (length-take-le m xs h)
-
-  long-front : length ys ≡ m
-  long-front = ap length front ∙ length-masked s (take m xs) ∙ length-take-le m xs h
-
-  back : take (length mid - m) (drop m mid) ≡ drop m xs
-  back = take_rest mid m ∙ drop_at ys (drop k xs) m long-front ∙ ap (λ n. drop n xs) e
-
-  pub both_parts : zs ≡ masked t (take (length mid - m) (drop m mid)) → put_mid m (length mid - m) mid zs ≡ masked s xs
-  both_parts second =
-      let none : drop (length mid - m) (drop m mid) ≡ [] = drop_all (length mid - m) (drop m mid) (simp length-drop (omega arith)) in
-      ap (λ l. take m mid ++ (zs ++ l)) none ∙ ap (λ l. take m mid ++ l) (append-nil zs)
-      ∙ ap (λ l. l ++ zs) (take_at ys (drop k xs) m long-front ∙ front)
-      ∙ ap (λ l. masked s (take m xs) ++ l) (second ∙ ap (masked t) back ∙ ap (λ f. masked f (drop m xs)) middle) ∙ masked_split s xs m h
-
-  pub both_states : after (length (take (length mid - m) (drop m mid))) t ≡ after (length xs) s
-  both_states = ap (λ l. after (length l) t) back ∙ ap (after (length (drop m xs))) middle ∙ after_split s xs m h
-
 module _ (s : Rc4) (xs : List ℕ) (i : ℕ) (h : length xs ≤ i) where
   pub made_all : made i s xs ≡ xs
   made_all = ap (λ l. take i xs ++ masked s l) (drop_all i xs h) ∙ append-nil (take i xs) ∙ take_all i xs h

@@ -6,6 +6,8 @@ ghost use Rattle.std.specs.List.{range_with_len};
 ghost use Rattle.octets.specs.Octets.{little_octets};
 ghost use Rattle.rc4.specs.Rc4.{scheduled, stepped, output, after, keystream, masked, covered, GoesOn};
 
+use std::array;
+
 // The state of the generator: a permutation of the octets, and two places in it.
 #[derive(Drop)]
 pub struct Rc4 {
@@ -17,19 +19,7 @@ pub struct Rc4 {
 fn identity() -> [u8; 256]
     ensures { result ≡ range_with_len 0 256 }
 {
-    let mut table = [0u8; 256];
-    for n in 0..256usize {
-        table[n] = n as u8;
-    }
-    table
-}
-
-// The place after `k` in a key of `size` octets that is repeated.
-fn place_after(k: usize, size: usize) -> usize
-    requires { k < size }
-    ensures { (i : ℕ) → k ≡ i % size → result ≡ (i + 1) % size }
-{
-    if k + 1 == size { 0 } else { k + 1 }
+    array::from_fn(|n| n as u8)
 }
 
 impl Rc4 {
@@ -44,15 +34,12 @@ impl Rc4 {
             j: 0,
         };
         let mut j = 0u8;
-        // i % key.len(), counted, since a division costs more than the rest of a turn.
-        let mut k = 0usize;
-        for i in 0..256usize {
+        for (i, octet) in key.iter().cycle().take(256).enumerate() {
             let a = state.table[i];
-            j = j.wrapping_add(a).wrapping_add(key[k]);
+            j = j.wrapping_add(a).wrapping_add(*octet);
             let b = state.table[j as usize];
             state.table[i] = b;
             state.table[j as usize] = a;
-            k = place_after(k, key.len());
         }
         state
     }
@@ -78,14 +65,16 @@ impl Rc4 {
         ensures state { self.new ≡ after 8 self.old }
         ensures value { little_octets 8 result ≡ keystream self.old 8 }
     {
-        let a = self.next() as u64;
-        let b = a + self.next() as u64 * 0x100;
-        let c = b + self.next() as u64 * 0x1_0000;
-        let d = c + self.next() as u64 * 0x100_0000;
-        let e = d + self.next() as u64 * 0x1_0000_0000;
-        let f = e + self.next() as u64 * 0x100_0000_0000;
-        let g = f + self.next() as u64 * 0x1_0000_0000_0000;
-        g + self.next() as u64 * 0x100_0000_0000_0000
+        u64::from_le_bytes([
+            self.next(),
+            self.next(),
+            self.next(),
+            self.next(),
+            self.next(),
+            self.next(),
+            self.next(),
+            self.next(),
+        ])
     }
 
     // Eight octets under the key stream, as one word.
@@ -130,8 +119,9 @@ impl Rc4 {
         ensures goes_on { GoesOn self.old octets.old octets.new self.new }
     {
         let whole = octets.len() / 8 * 8;
-        self.apply_eights(&mut octets[0..whole]);
-        self.apply_octets(&mut octets[whole..]);
+        let (eights, rest) = octets.split_at_mut(whole);
+        self.apply_eights(eights);
+        self.apply_octets(rest);
     }
 }
 
