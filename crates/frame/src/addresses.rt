@@ -3,8 +3,8 @@ ghost use Rattle.std.specs.Prelude.{◌≡◌, ◌+◌, ◌^◌, ◌<◌, ◌≤
 ghost use Rattle.std.specs.Cmp.{nat_eq_equiv, on_equiv, on_per, partial_equiv_from_equiv};
 ghost use Rattle.frame.specs.Addresses.{address_at, number, is_group};
 
-use std::fmt;
 use octets::{array_at, big};
+use std::fmt;
 
 // Six octets, as they stand in a frame.
 #[derive(Clone, Copy, Debug)]
