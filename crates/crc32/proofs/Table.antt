@@ -34,9 +34,9 @@ entry_of ys (xs ∷ tables) t rank n r l =
     elim rank as (λ (k : ℕ). k < length (xs ∷ tables) → get_or (get_or (xs ∷ tables) k []) n 0 ≡ steps (8 * (k + 1)) (get_or ys n 0)) [
       | zero ↦ λ _. first
       | suc k ↦ λ h.
-        let more : 8 + 8 * (k + 1) ≡ 8 * (suc k + 1) = omega arith in
-        entry_of xs tables (both_right (both (eqb (length xs) 256) (follows ys xs)) (each_follows xs tables) t) k n (le_of_suc-le-suc h) l
-        ∙ ap (steps (8 * (k + 1))) first ∙ sym (steps_more 8 (8 * (k + 1)) (get_or ys n 0)) ∙ ap (λ m. steps m (get_or ys n 0)) more
+          let more : 8 + 8 * (k + 1) ≡ 8 * (suc k + 1) = omega arith in
+          entry_of xs tables (both_right (both (eqb (length xs) 256) (follows ys xs)) (each_follows xs tables) t) k n (le_of_suc-le-suc h) l
+          ∙ ap (steps (8 * (k + 1))) first ∙ sym (steps_more 8 (8 * (k + 1)) (get_or ys n 0)) ∙ ap (λ m. steps m (get_or ys n 0)) more
     ] r
 
 abbrev octets : List ℕ

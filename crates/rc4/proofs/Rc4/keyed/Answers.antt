@@ -1,5 +1,5 @@
-use Rattle.std.proofs.Common.{◌≡◌, ℕ, ◌+◌, ◌%◌, ◌<◌, ◌≤◌, List, [], ◌∷◌, ◌++◌, length, get_or, sym, refl, ap, ◌∙◌, arith, Iter, Some, length-append}
-use Rattle.std.specs.Option.{IfSome, option_map}
+use Rattle.std.proofs.Common.{◌≡◌, ℕ, ◌+◌, ◌%◌, ◌≤◌, List, [], ◌∷◌, ◌++◌, length, get_or, sym, refl, ap, ◌∙◌, arith, Iter, Some, length-append}
+use Rattle.std.specs.Option.{option_map}
 use Rattle.std.proofs.Math.Nat.{lt_of_not-le}
 use Rattle.std.proofs.iter.runs.Made.{run_of_turn, run_of_exit}
 use Rattle.rc4.specs.Rc4.{key_turns, key_move, scheduled}
@@ -28,9 +28,9 @@ loop-i-preserved c =
     let place : i ≡ m = rw turn.2.2 at (en.0 m) in
     let here : tk.1.0.at m ≡ Some c.in-Some.octet = tk.1.2.0.2 m ∙ en.1.2.0.2 m ∙ ap (option_map (λ x. x.1)) turn.2.2 in
     let round = rw here at ((cy.2 n m (λ r clone run t e.
-        let size : length run.from.rest.now ≡ n = ap (λ (k : Iter ℕ). length k.rest.now) e ∙ ap length clone ∙ c.iter.ensures.len in
-        let read = c.iter.ensures.runs run t in
-        (omega (arith, read.0, size), λ w. read.1 w ∙ size))).1) in
+    let size : length run.from.rest.now ≡ n = ap (λ (k : Iter ℕ). length k.rest.now) e ∙ ap length clone ∙ c.iter.ensures.len in
+    let read = c.iter.ensures.runs run t in
+    (omega (arith, read.0, size), λ w. read.1 w ∙ size))).1) in
     let run = round.2.0 in
     let rest : run.from.rest.now ≡ key = ap (λ (k : Iter ℕ). k.rest.now) round.2.1 ∙ round.1 ∙ c.iter.ensures.rest in
     let read : option_map (λ y. y.now) (run.at (m % n)) ≡ Some (get_or run.from.rest.now (m % n) 0) = (c.iter.ensures.runs run run.seen).2 (m % n) 0 round.2.2.0 in
@@ -50,11 +50,11 @@ returns c =
     let tk = c.take.ensures.runs en.1.0 en.1.0.seen en.1.1 in
     let cy = c.cycle.ensures.runs tk.1.0 tk.1.0.seen tk.1.1 in
     let never : ¬ (length c.loop-i.yielded ≤ 255) = λ h.
-        let round = cy.0 (tk.1.2.1 (en.1.2.1 ∙ end.2) (omega (arith, h, end.3.1, en.1.2.0.0))) in
-        let run = round.2.0 in
-        let empty = (c.iter.ensures.runs run run.seen).1 round.2.2 in
-        let size : length run.from.rest.now ≡ length c.args.key.now = ap (λ (k : Iter ℕ). length k.rest.now) round.2.1 ∙ ap length round.1 ∙ c.iter.ensures.len in
-        absurd (omega (arith, empty, size, round.2.3)) in
+    let round = cy.0 (tk.1.2.1 (en.1.2.1 ∙ end.2) (omega (arith, h, end.3.1, en.1.2.0.0))) in
+    let run = round.2.0 in
+    let empty = (c.iter.ensures.runs run run.seen).1 round.2.2 in
+    let size : length run.from.rest.now ≡ length c.args.key.now = ap (λ (k : Iter ℕ). length k.rest.now) round.2.1 ∙ ap length round.1 ∙ c.iter.ensures.len in
+    absurd (omega (arith, empty, size, round.2.3)) in
     let all : length c.loop-i.yielded ≡ 256 = omega (arith, lt_of_not-le never, end.3.1, en.1.2.0.0, tk.0) in
     let table : c.loop-i.state.table ≡ (key_turns c.args.key.now 256).0 =
     ap (λ (s : List ℕ × ℕ). s.0) (c.loop-i.invariant.0 ∙ ap (key_turns c.args.key.now) all) in
