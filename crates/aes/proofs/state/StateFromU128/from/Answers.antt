@@ -1,6 +1,6 @@
 use Rattle.std.proofs.Common.{refl}
 use Rattle.aes.specs.Words.{octets, held}
-use Rattle.aes.proofs.state.State.from_word.Goals as goal
+use Rattle.aes.proofs.state.StateFromU128.from.Goals as goal
 
 pub returns : goal.returns
 unfolding octets held
