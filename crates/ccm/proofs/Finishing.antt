@@ -44,14 +44,13 @@ pub record Opened (E : Octets → Octets) (nonce additional sealed old out : Oct
   pub size : length (uncovered E nonce sealed) ≡ length sealed - 8
   pub answer : ccm_open E nonce additional sealed ≡ cond r (Some (uncovered E nonce sealed)) None
 
-pub opened_by : (E : Octets → Octets) (nonce additional sealed text rest old start mac end out : Octets) (r : Bool) → WholeBlocks E → text ≡ take (length sealed - 8) sealed → rest ≡ drop (length sealed - 8) sealed → start ≡ cbc_mac E (numbered (first_flags additional) nonce (length sealed - 8) ∷ blocks (measured additional)) → out ≡ begins (covered E nonce text) old → mac ≡ chained E start (blocks (covered E nonce text)) → end ≡ take 8 (xored mac (E (counter_block nonce 0))) → r ≡ bytes_eq end rest → Opened E nonce additional sealed old out r
+pub opened_by : (E : Octets → Octets) (nonce additional sealed text rest old end out : Octets) (r : Bool) → WholeBlocks E → text ≡ take (length sealed - 8) sealed → rest ≡ drop (length sealed - 8) sealed → out ≡ begins (covered E nonce text) old → end ≡ ccm_tail E nonce additional (covered E nonce text) → r ≡ bytes_eq end rest → Opened E nonce additional sealed old out r
 unfolding ccm_open
-opened_by E nonce additional sealed text rest old start mac end out r whole front back begun memory chain made same =
+opened_by E nonce additional sealed text rest old end out r whole front back memory tail same =
     let u = uncovered E nonce sealed in
-    let long = length-uncovered E nonce sealed whole in
-    let tail = tail_made E nonce additional u start mac end (length sealed - 8) (sym long) begun (chain ∙ ap (λ l. chained E start (blocks (covered E nonce l))) front) made in
+    let right = tail ∙ ap (λ l. ccm_tail E nonce additional (covered E nonce l)) front in
     record {
       text = memory ∙ ap (λ l. begins (covered E nonce l) old) front;
-      size = long;
-      answer = ap (λ t. cond t (Some u) None) (sym (same ∙ (λ i. bytes_eq (tail i) (back i))));
+      size = length-uncovered E nonce sealed whole;
+      answer = ap (λ t. cond t (Some u) None) (sym (same ∙ (λ i. bytes_eq (right i) (back i))));
     }

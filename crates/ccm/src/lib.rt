@@ -6,7 +6,7 @@ ghost use Rattle.std.specs.Prelude.{◌≡◌, ◌+◌, ◌-◌, ◌*◌, ◌/�
 ghost use Rattle.octets.specs.Octets.{written, begins, xored};
 ghost use Rattle.aes.specs.Aes.{expanded, aes128};
 ghost use Rattle.aes.specs.Words.{octets as word_octets, round_keys};
-ghost use Rattle.ccm.specs.Ccm.{block_of, blocks, numbered, counter_block, first_flags, measured, chained, cbc_mac, covered, ccm_seal, ccm_open, left_by_ccm_open, OpensExactly};
+ghost use Rattle.ccm.specs.Ccm.{block_of, blocks, numbered, counter_block, first_flags, measured, chained, cbc_mac, covered, ccm_tail, ccm_seal, ccm_open, left_by_ccm_open, OpensExactly};
 ghost use Rattle.ccm.specs.Inner.{under, WholeBlocks, filled, plain};
 
 use aes::{Aes128, load, store};
@@ -164,6 +164,18 @@ impl<'a> Mode<'a> {
         }
         self.cover_last::<OPENING>(mac, text, out)
     }
+
+    // Puts a text under the key stream, into the start of a memory, and gives the tail of the message.
+    fn run<const OPENING: bool>(&self, text: &[u8], out: &mut [u8]) -> [u8; 8]
+        requires most { length text.now < 65536 }
+        requires room { length text.now ≤ length out.old }
+        ensures memory { out.new ≡ begins (covered (under self.now.cipher) self.now.nonce.now text.now) out.old }
+        ensures tail { result ≡ ccm_tail (under self.now.cipher) self.now.nonce.now self.now.additional.now (plain OPENING (under self.now.cipher) self.now.nonce.now text.now) }
+    {
+        let start = self.begin(text.len() as u16);
+        let mac = self.cover::<OPENING>(start, text, out);
+        self.tail(mac)
+    }
 }
 
 // Seals a message, with additional data that is authenticated and not sealed, into the start of a memory: the message
@@ -175,11 +187,8 @@ pub fn seal(key: &[u8; 16], nonce: &[u8; 13], additional: &[u8], message: &[u8],
     ensures length { length (ccm_seal (aes128 key.now) nonce.now additional.now message.now) ≡ length message.now + 8 }
     ensures memory { out.new ≡ begins (ccm_seal (aes128 key.now) nonce.now additional.now message.now) out.old }
 {
-    let size = message.len();
-    let mode = Mode::new(key, nonce, additional);
-    let start = mode.begin(size as u16);
-    let mac = mode.cover::<false>(start, message, out);
-    put(out, size, &mode.tail(mac));
+    let tail = Mode::new(key, nonce, additional).run::<false>(message, out);
+    put(out, message.len(), &tail);
 }
 
 // Opens what was sealed: writes the message to the start of a memory, if the tail is right. All octets of the tail are
@@ -199,13 +208,10 @@ pub fn open(
     ensures memory { out.new ≡ left_by_ccm_open sealed.now (ccm_open (aes128 key.now) nonce.now additional.now sealed.now) out.old }
     ensures exactly { OpensExactly (aes128 key.now) nonce.now additional.now sealed.now }
 {
-    let size = sealed.len() - 8;
-    let (text, tail) = sealed.split_at(size);
-    let mode = Mode::new(key, nonce, additional);
-    let start = mode.begin(size as u16);
-    let mac = mode.cover::<true>(start, text, out);
-    if !same(&mode.tail(mac), tail) {
-        fill(&mut out[..size], 0);
+    let (text, tail) = sealed.split_at(sealed.len() - 8);
+    let right = Mode::new(key, nonce, additional).run::<true>(text, out);
+    if !same(&right, tail) {
+        fill(&mut out[..text.len()], 0);
         return Err(WrongTail);
     }
     Ok(())
