@@ -62,16 +62,11 @@ impl State {
     pub(crate) fn take_words(self, octets: &[u8]) -> State
         ensures { result ≡ chain self (words octets.now) }
     {
-        let State {
-            mut left,
-            mut right,
-        } = self;
-        for i in 0..octets.len() / 4 {
-            let next = State { left, right }.take(little::u32_at(octets, 4 * i));
-            left = next.left;
-            right = next.right;
+        let mut state = self;
+        for word in octets.as_chunks::<4>().0 {
+            state = state.take(u32::from_le_bytes(*word));
         }
-        State { left, right }
+        state
     }
 
     // Both words in octets.

@@ -44,8 +44,8 @@ pub fn code_in_portions(
     ensures { result ≡ michael key.now (heading destination.now source.now priority ++ flat_map (λ x. x.now) portions.now) }
 {
     let mut stage = Keyed::new(key).address(destination, source, priority);
-    for i in 0..portions.len() {
-        stage = stage.portion(portions[i]);
+    for portion in portions {
+        stage = stage.portion(portion);
     }
     stage.end()
 }

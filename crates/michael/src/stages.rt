@@ -122,8 +122,8 @@ impl Addressed {
         ensures { (rest : Octets) → comes_to result rest ≡ comes_to self (octets.now ++ rest) }
     {
         let mut stage = self;
-        for i in 0..octets.len() {
-            stage = stage.octet(octets[i]);
+        for octet in octets {
+            stage = stage.octet(*octet);
         }
         stage
     }
