@@ -1,5 +1,5 @@
 -- Michael over octets that come in parts; how many words it takes; and that its code is eight octets.
-use Rattle.std.proofs.Common.{◌≡◌, ℕ, zero, suc, ◌+◌, ◌-◌, ◌*◌, ◌/◌, ◌%◌, List, [], ◌∷◌, ◌++◌, map, length, get_or, replicate, sym, refl, ap, ◌∙◌, arith}
+use Rattle.std.proofs.Common.{◌≡◌, ℕ, zero, suc, ◌+◌, ◌-◌, ◌*◌, ◌/◌, ◌%◌, ◌≤◌, lit≤, List, [], ◌∷◌, ◌++◌, map, length, get_or, drop, replicate, sym, refl, ap, ◌∙◌, arith}
 use Rattle.std.specs.Int.{w32, from_le_bytes}
 use Rattle.std.specs.List.{range_with_len}
 use Rattle.std.specs.Simd.{first_chunks}
@@ -42,33 +42,29 @@ ends_in-append s xs ys whole =
 pub word_of : (x a b c d : ℕ) → x ≡ a + b * 256 + c * 65536 + d * 16777216 → x ≡ little (a ∷ b ∷ c ∷ d ∷ [])
 word_of x a b c d e = omega arith
 
--- the words of octets are those of their chunks of four
-pub words_chunked : (n : ℕ) (xs : Octets) → n ≡ length xs / 4 → map (from_le_bytes w32) (first_chunks 4 n xs) ≡ words xs
-words_chunked zero [] e = refl
-words_chunked zero (a ∷ []) e = refl
-words_chunked zero (a ∷ b ∷ []) e = refl
-words_chunked zero (a ∷ b ∷ c ∷ []) e = refl
-words_chunked zero (a ∷ b ∷ c ∷ d ∷ xs) e = absurd (omega arith)
-words_chunked (suc n) [] e = absurd (omega arith)
-words_chunked (suc n) (a ∷ []) e = absurd (omega arith)
-words_chunked (suc n) (a ∷ b ∷ []) e = absurd (omega arith)
-words_chunked (suc n) (a ∷ b ∷ c ∷ []) e = absurd (omega arith)
-words_chunked (suc n) (a ∷ b ∷ c ∷ d ∷ xs) e = λ i. word_of _ a b c d refl i ∷ words_chunked n xs (omega arith) i
-
--- octets in two parts, of which the first is whole words
-pub ends_in_parts : (s : State) (xs ys all rest : Octets) → all ≡ xs ++ ys → length xs % 4 ≡ 0 → ends_in (chain s (words xs)) (ys ++ rest) ≡ ends_in s (all ++ rest)
-ends_in_parts s xs ys all rest parts whole =
-    sym (ends_in-append s xs (ys ++ rest) whole)
-    ∙ ap (ends_in s) (sym (append_assoc xs ys rest))
-    ∙ sym (ap (λ m. ends_in s (m ++ rest)) parts)
+-- chunks of four that come first may be taken first
+pub ends_in_chunked : (s : State) (n : ℕ) (xs rest : Octets) → n * 4 ≤ length xs → ends_in (chain s (map (from_le_bytes w32) (first_chunks 4 n xs))) (drop (n * 4) xs ++ rest) ≡ ends_in s (xs ++ rest)
+ends_in_chunked s zero xs rest long = refl
+ends_in_chunked s (suc n) [] rest long = absurd (omega arith)
+ends_in_chunked s (suc n) (a ∷ []) rest long = absurd (omega arith)
+ends_in_chunked s (suc n) (a ∷ b ∷ []) rest long = absurd (omega arith)
+ends_in_chunked s (suc n) (a ∷ b ∷ c ∷ []) rest long = absurd (omega arith)
+ends_in_chunked s (suc n) (a ∷ b ∷ c ∷ d ∷ xs) rest long =
+    let four = a ∷ b ∷ c ∷ d ∷ [] in
+    let past : suc n * 4 ≡ suc (suc (suc (suc (n * 4)))) = omega arith in
+    let taken = chain (taking s (from_le_bytes w32 four)) (map (from_le_bytes w32) (first_chunks 4 n xs)) in
+    ap (λ k. ends_in taken (drop k (four ++ xs) ++ rest)) past
+    ∙ ends_in_chunked (taking s (from_le_bytes w32 four)) n xs rest (omega arith)
+    ∙ ap (λ w. ends_in (taking s w) (xs ++ rest)) (word_of _ a b c d refl)
+    ∙ sym (ends_in-append s four (xs ++ rest) refl)
 
 -- the octets of an address, one by one
 abbrev each : Address → Octets
 each a = map (λ i. get_or a.octets i 0) (range_with_len 0 6)
 
-pub ends_in-heading : (s : State) (destination source : Address) (priority : ℕ) (rest : Octets) → length destination.octets ≡ 6 → length source.octets ≡ 6 → ends_in (chain s (words (each destination ++ (each source ++ (priority ∷ 0 ∷ 0 ∷ 0 ∷ []))))) rest ≡ ends_in s (heading destination source priority ++ rest)
+pub ends_in-heading : (s : State) (destination source : Address) (priority : ℕ) (rest : Octets) → length destination.octets ≡ 6 → length source.octets ≡ 6 → ends_in (chain s (map (from_le_bytes w32) (first_chunks 4 4 (each destination ++ (each source ++ (priority ∷ 0 ∷ 0 ∷ 0 ∷ [])))))) rest ≡ ends_in s (heading destination source priority ++ rest)
 ends_in-heading s destination source priority rest ld ls =
-    sym (ends_in-append s (each destination ++ (each source ++ (priority ∷ 0 ∷ 0 ∷ 0 ∷ []))) rest refl)
+    ends_in_chunked s 4 (each destination ++ (each source ++ (priority ∷ 0 ∷ 0 ∷ 0 ∷ []))) rest (lit≤ tt)
     ∙ sym (ap (λ xs. ends_in s ((xs ++ (each source ++ (priority ∷ 0 ∷ 0 ∷ 0 ∷ []))) ++ rest)) (spelled 6 destination.octets ld))
     ∙ sym (ap (λ xs. ends_in s ((destination.octets ++ (xs ++ (priority ∷ 0 ∷ 0 ∷ 0 ∷ []))) ++ rest)) (spelled 6 source.octets ls))
 

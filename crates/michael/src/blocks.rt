@@ -1,6 +1,7 @@
 // The state of Michael, and what a word makes of it.
-ghost use Rattle.std.specs.Prelude.{◌≡◌, length};
-ghost use Rattle.michael.specs.Michael.{key_state, xswap, block, taking, chain, words, code_octets};
+ghost use Rattle.std.specs.Prelude.{◌≡◌, map, length};
+ghost use Rattle.std.specs.Int.{w32, from_le_bytes};
+ghost use Rattle.michael.specs.Michael.{key_state, xswap, block, taking, chain, code_octets};
 
 use octets::little;
 
@@ -58,12 +59,12 @@ impl State {
         .block()
     }
 
-    // The state once it has taken each whole word of some octets. Octets left over at their end are not read.
-    pub(crate) fn take_words(self, octets: &[u8]) -> State
-        ensures { result ≡ chain self (words octets.now) }
+    // The state once it has taken words, each in its four octets.
+    pub(crate) fn take_words(self, words: &[[u8; 4]]) -> State
+        ensures { result ≡ chain self (map (from_le_bytes w32) words.now) }
     {
         let mut state = self;
-        for word in octets.as_chunks::<4>().0 {
+        for word in words {
             state = state.take(u32::from_le_bytes(*word));
         }
         state

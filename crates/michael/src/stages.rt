@@ -73,7 +73,12 @@ impl Keyed {
         let Keyed { state } = self;
         let [a, b, c, d, e, f] = destination.octets;
         let [g, h, i, j, k, l] = source.octets;
-        Addressed::over(state.take_words(&[a, b, c, d, e, f, g, h, i, j, k, l, priority, 0, 0, 0]))
+        Addressed::over(state.take_words(&[
+            [a, b, c, d],
+            [e, f, g, h],
+            [i, j, k, l],
+            [priority, 0, 0, 0],
+        ]))
     }
 
     // Lets the stage go, with no code.
@@ -135,8 +140,8 @@ impl Addressed {
         let Addressed { state, waiting } = self;
         match waiting {
             Waiting::Nothing => {
-                let (whole, ragged) = octets.split_at(octets.len() / 4 * 4);
-                Addressed::over(state.take_words(whole)).few(ragged)
+                let (words, ragged) = octets.as_chunks::<4>();
+                Addressed::over(state.take_words(words)).few(ragged)
             }
             _ => Addressed { state, waiting }.few(octets),
         }
