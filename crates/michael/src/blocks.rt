@@ -26,8 +26,14 @@ impl State {
         requires { length key.now ≡ 8 }
         ensures { result ≡ key_state key.now }
     {
-        let (left, right) = (little::u32_at(key, 0), little::u32_at(key, 4));
-        State { left, right }
+        let (left, right) = (
+            little::number_at::<4>(key, 0),
+            little::number_at::<4>(key, 4),
+        );
+        State {
+            left: left as u32,
+            right: right as u32,
+        }
     }
 
     // The block function.
