@@ -26,14 +26,9 @@ impl State {
         requires { length key.now ≡ 8 }
         ensures { result ≡ key_state key.now }
     {
-        let (left, right) = (
-            little::number_at::<4>(key, 0),
-            little::number_at::<4>(key, 4),
-        );
-        State {
-            left: left as u32,
-            right: right as u32,
-        }
+        let left = little::number_at::<4>(key, 0) as u32;
+        let right = little::number_at::<4>(key, 4) as u32;
+        State { left, right }
     }
 
     // The block function.
