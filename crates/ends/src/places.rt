@@ -5,6 +5,7 @@ ghost use Rattle.ends.specs.Holding.{same_address};
 
 use crate::joined::Joined;
 use frame::Address;
+use std::fmt;
 
 // The name of a place: pairwise 0 to 15, or a group's by its key ID, 1 to 3. With another number there is no such place.
 #[derive(Clone, Copy, PartialEq, Eq, Debug)]
@@ -79,11 +80,20 @@ impl Place {
     }
 }
 
+impl fmt::Display for Place {
+    fn fmt<W: fmt::Write>(&self, f: &mut fmt::Formatter<W>) -> fmt::Result {
+        match self {
+            Place::Pairwise(n) => write!(f, "pairwise place {n}"),
+            Place::Group(n) => write!(f, "group {n}"),
+        }
+    }
+}
+
 impl Installation {
     // Whether it stands under this address.
     pub fn is_of(&self, address: &Address) -> bool
         ensures { result ≡ same_address self.now.address address.now }
     {
-        self.address.number() == address.number()
+        self.address == *address
     }
 }

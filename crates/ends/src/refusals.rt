@@ -8,7 +8,7 @@ use frame::HeaderFault;
 use suite::{HeadFault, OpenFault};
 
 // One case for each ground, in the order of the checks. From `Replayed` on, the place and the fragment number.
-#[derive(Clone, Copy, Debug)]
+#[derive(Clone, Copy, PartialEq, Eq, Debug)]
 pub enum Refusal {
     // 1: the time is above 2^62
     ClockRange,
