@@ -13,7 +13,7 @@ pub use answers::{Arrived, Delivery};
 pub use joined::Joined;
 pub use places::{Installation, Partial, Place};
 pub use refusals::Refusal;
-pub use requests::{Plan, Request, Span};
+pub use requests::{InstallRequest, Plan, Request, Span};
 pub use roles::{CodedSuites, Role, State};
 
 // The last time that a clock may show, in milliseconds: 2^62.

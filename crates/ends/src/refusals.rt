@@ -62,6 +62,8 @@ pub enum Refusal {
 
 impl Refusal {
     // The number that the ground goes by.
+    // Kept: no plainer as a From, since it tells less than the refusal does; and a cast reads no number of a variant with
+    // something inside.
     pub fn number(&self) -> u8
         ensures { result ≡ refusal_number self.now }
     {
