@@ -6,6 +6,7 @@ ghost use Rattle.ends.specs.Holding.{held, filled, is_filled, holds, lowest, pla
 ghost use Rattle.ends.specs.Checks.{blocked};
 ghost use Rattle.ends.specs.Installs.{new};
 
+use crate::PAIRWISE_PLACES;
 use crate::places::{Installation, Place};
 use crate::roles::{Role, State};
 use frame::Address;
@@ -68,7 +69,7 @@ impl State {
         ensures value { result ≡ place_of_peer (held self.now) address.now }
         ensures within { IfSome result (λ n. n < 16) }
     {
-        find(&self.slots[..16], address)
+        find(&self.slots[..PAIRWISE_PLACES], address)
     }
 }
 
