@@ -1,62 +1,81 @@
 -- The tables of an end as a function of the place, and a look through them.
-use Rattle.std.proofs.Common.{◌≡◌, ℕ, zero, suc, ◌+◌, ◌-◌, ◌<◌, Bool, true, false, cond, eqb, ◌⊎◌, List, get_or, replicate, Some, None, Option, sym, refl, ap, ◌∙◌, inl, inr, add-one, arith}
+use Rattle.std.proofs.Common.{◌≡◌, ℕ, zero, suc, ◌<◌, ◌≤◌, Bool, true, false, cond, ltb, ◌⊎◌, List, get_or, take, replicate, Some, None, Option, sym, refl, ap, ◌∙◌, inl, inr, arith, rules, set, length}
 use mathlib.Core.Path.{fun_ext}
-use Rattle.std.proofs.lemmas.Bool.{cases_eq}
+use Rattle.std.specs.List.{position, position_or_len}
+use Rattle.std.proofs.lemmas.Bool.{cases_eq, cond-true}
+use Rattle.std.proofs.lemmas.List.Sums.{fails_before_first, passes_at_first}
+use Rattle.std.proofs.lemmas.List.{get_or-take}
+use borrow.Author.Tests.{ltb-true, ltb-false}
 use Rattle.ends.specs.declared.places.Place.{Place}
 use Rattle.ends.specs.declared.places.Place.TheVariants.{Pairwise, Group}
-use Rattle.ends.specs.declared.places.Slot.{Slot}
-use Rattle.ends.specs.declared.places.Slot.TheVariants.{Empty}
-use Rattle.ends.specs.Holding.{Filling, filled, table, lowest, lowest_or}
+use Rattle.ends.specs.declared.places.Installation.{Installation}
+use Rattle.ends.specs.declared.roles.State.{State}
+use Rattle.ends.specs.Places.{exists, index_of}
+use Rattle.ends.specs.Holding.{filled, table, held, put, with_place, with_places, lowest, lowest_or}
 
 -- empty slots hold nothing, nor does what is past their end
-none_there : (k n : ℕ) → filled (get_or (replicate k Empty) n Empty) ≡ None
+pub none_there : (k n : ℕ) → filled (get_or (replicate k None) n None) ≡ None
 none_there zero n = refl
 none_there (suc k) zero = refl
 none_there (suc k) (suc n) = none_there k n
 
-cond_same : {A : Type 0} (b : Bool) (x : A) → cond b x x ≡ x
+pub cond_same : {A : Type 0} (b : Bool) (x : A) → cond b x x ≡ x
 cond_same true x = refl
 cond_same false x = refl
 
--- both tables, each emptied or left
-abbrev pub emptied_if : Bool → ℕ → List Slot → List Slot
-emptied_if b n slots = cond b (replicate n Empty) slots
-
-abbrev pub cleared : Bool → Bool → (Place → Option Filling) → Place → Option Filling
-cleared pairwise group at (Pairwise n) = cond pairwise None (at (Pairwise n))
-cleared pairwise group at (Group n) = cond group None (at (Group n))
-
-pub emptying : (a b : Bool) (m k : ℕ) (pairwise group : List Slot) → table (emptied_if a m pairwise) (emptied_if b k group) ≡ cleared a b (table pairwise group)
-emptying a b m k pairwise group = fun_ext go
+-- a slot stored in its place
+pub stored : (slots : List (Option Installation)) (p : Place) (slot : Option Installation) → exists p ≡ true → length slots ≡ 19 → table (set slots (index_of p) slot) ≡ put (table slots) p (filled slot)
+stored slots p slot there long = fun_ext (go p there)
   where
-    pairs : (a : Bool) (n : ℕ) → filled (get_or (emptied_if a m pairwise) n Empty) ≡ cond a None (filled (get_or pairwise n Empty))
-    pairs true n = none_there m n
-    pairs false n = refl
+    go : (p : Place) → exists p ≡ true → (q : Place) → table (set slots (index_of p) slot) q ≡ put (table slots) p (filled slot) q
+    go (Pairwise m) e (Pairwise n) = search rules
+    go (Pairwise m) e (Group n) = search rules
+    go (Group m) e (Pairwise n) = search rules
+    go (Group m) e (Group n) = search rules
 
-    groups : (b : Bool) (n : ℕ) → cond (eqb n 0) None (filled (get_or (emptied_if b k group) (n - 1) Empty)) ≡ cond b None (cond (eqb n 0) None (filled (get_or group (n - 1) Empty)))
-    groups true n = ap (cond (eqb n 0) None) (none_there k (n - 1)) ∙ cond_same (eqb n 0) None
-    groups false n = refl
+-- so an end that holds it there
+pub placed : (s : State) (p : Place) (slot : Option Installation) (n : ℕ) → n ≡ index_of p → exists p ≡ true → length s.slots ≡ 19
+    → held (record { role = s.role; own = s.own; slots = set s.slots n slot; sequence = s.sequence; last_failure = s.last_failure; block_end = s.block_end }) ≡ with_place (held s) p (filled slot)
+placed s p slot n at there long = rw at (ap (with_places (held s)) (stored s.slots p slot there long))
 
-    go : (p : Place) → table (emptied_if a m pairwise) (emptied_if b k group) p ≡ cleared a b (table pairwise group) p
-    go (Pairwise n) = pairs a n
-    go (Group n) = groups b n
+-- no slot holds anything
+pub all_empty : table (replicate 19 None) ≡ λ p. None
+all_empty = fun_ext go
+  where
+    go : (p : Place) → table (replicate 19 None) p ≡ None
+    go p = ap (λ o. cond (exists p) o None) (none_there 19 (index_of p)) ∙ cond_same (exists p) None
 
-none_cleared : (at : Place → Option Filling) (p : Place) → cleared true true at p ≡ None
-none_cleared at (Pairwise n) = refl
-none_cleared at (Group n) = refl
+none_below : (test : ℕ → Bool) (i : ℕ) → ((k : ℕ) → k < i → test k ≡ false) → lowest i test ≡ None
+none_below test zero h = refl
+none_below test (suc i) h = ap (λ o. lowest_or o (test i) i) (none_below test i (λ k l. h k (omega arith))) ∙ ap (λ b. cond b (Some i) None) (h i (omega arith))
 
-pub all_empty : (m k : ℕ) → table (replicate m Empty) (replicate k Empty) ≡ λ p. None
-all_empty m k = emptying true true m k (replicate m Empty) (replicate k Empty) ∙ fun_ext (none_cleared (table (replicate m Empty) (replicate k Empty)))
-
--- none so far, and not here
-pub lowest_more : (test : ℕ → Bool) (i : ℕ) → lowest i test ≡ None → test i ≡ false → lowest (i + 1) test ≡ None
-lowest_more test i e t = ap (λ k. lowest k test) (add-one i) ∙ ap (λ o. lowest_or o (test i) i) e ∙ ap (λ b. cond b (Some i) None) t
-
--- none so far, and here: that is the lowest of all
-pub lowest_found : (test : ℕ → Bool) (i n : ℕ) → i < n → lowest i test ≡ None → test i ≡ true → lowest n test ≡ Some i
+-- none below, and here: that is the lowest of all
+lowest_found : (test : ℕ → Bool) (i n : ℕ) → i < n → lowest i test ≡ None → test i ≡ true → lowest n test ≡ Some i
 lowest_found test i zero h e t = absurd (omega arith)
 lowest_found test i (suc n) h e t = here (cases_eq i n) (λ l. lowest_found test i n l e t)
   where
     here : (i ≡ n) ⊎ (i ≡ n → ⊥) → (i < n → lowest n test ≡ Some i) → lowest_or (lowest n test) (test n) n ≡ Some i
     here (inl s) below = ap (λ k. lowest_or (lowest k test) (test k) k) (sym s) ∙ ap (λ o. lowest_or o (test i) i) e ∙ ap (λ b. cond b (Some i) None) t
     here (inr s) below = ap (λ o. lowest_or o (test n) n) (below (omega arith))
+
+-- the first element that passes stands at the lowest number that does
+module _ {X : Type 0} (p : X → Bool) (xs : List X) (d : X) (test : ℕ → Bool) (n : ℕ) (long : length xs ≡ n) (same : (k : ℕ) → k < n → p (get_or xs k d) ≡ test k) where
+  abbrev first : ℕ
+  first = position_or_len p xs
+
+  found : (b : Bool) → ltb first (length xs) ≡ b → cond b (Some first) None ≡ lowest n test
+  found true e =
+      let inside : first < length xs = omega (arith, ltb-true) in
+      sym (lowest_found test first n (omega arith) (none_below test first (λ k l. sym (same k (omega arith)) ∙ fails_before_first p xs k d l)) (sym (same first (omega arith)) ∙ passes_at_first p xs d inside))
+  found false e =
+      let outside : length xs ≤ first = omega (arith, ltb-false) in
+      sym (none_below test n (λ k l. sym (same k l) ∙ fails_before_first p xs k d (omega arith)))
+
+  pub position_lowest : position p xs ≡ lowest n test
+  position_lowest = found (ltb first (length xs)) refl
+
+-- a pairwise place among the slots before those of the groups
+pub among_pairs : (slots : List (Option Installation)) (n : ℕ) → n < 16 → filled (get_or (take 16 slots) n None) ≡ table slots (Pairwise n)
+among_pairs slots n h =
+    let there : exists (Pairwise n) ≡ true = search rules in
+    ap filled (get_or-take 16 slots n None h) ∙ sym (cond-true (exists (Pairwise n)) _ None there)
