@@ -6,8 +6,6 @@ use Rattle.frame.specs.declared.addresses.Address.{Address}
 use Rattle.suite.specs.Meaning.{Meaning}
 use Rattle.ends.specs.declared.places.Place.{Place}
 use Rattle.ends.specs.declared.places.Place.TheVariants.{Pairwise, Group}
-use Rattle.ends.specs.declared.places.Slot.{Slot}
-use Rattle.ends.specs.declared.places.Slot.TheVariants.{Empty, Filled}
 use Rattle.ends.specs.declared.places.Installation.{Installation}
 use Rattle.ends.specs.declared.places.Partial.{Partial}
 use Rattle.ends.specs.declared.roles.Role.{Role}
@@ -52,13 +50,13 @@ part_if (Some p) = Some (part_in p)
 abbrev pub filling : Installation → Filling
 filling i = record { key = i.key; address = i.address; send = i.send; replay = i.replay; partial = part_if i.partial }
 
-abbrev pub filled : Slot → Option Filling
-filled Empty = None
-filled (Filled i) = Some (filling i)
+abbrev pub filled : Option Installation → Option Filling
+filled None = None
+filled (Some i) = Some (filling i)
 
-abbrev pub table : List Slot → List Slot → Place → Option Filling
-table pairwise group (Pairwise n) = filled (slice_index_or pairwise n Empty)
-table pairwise group (Group n) = cond (n == 0) None (filled (slice_index_or group (n - 1) Empty))
+abbrev pub table : List (Option Installation) → List (Option Installation) → Place → Option Filling
+table pairwise group (Pairwise n) = filled (slice_index_or pairwise n None)
+table pairwise group (Group n) = cond (n == 0) None (filled (slice_index_or group (n - 1) None))
 
 abbrev pub held : State → End
 held s = record { role = s.role; own = s.own; at = table s.pairwise s.group; sequence = s.sequence % 4096; failure = s.last_failure; block = s.block_end }

@@ -9,7 +9,7 @@ pub mod roles;
 pub mod states;
 
 pub use answers::{Arrived, Delivery};
-pub use places::{Installation, Partial, Place, Slot};
+pub use places::{Installation, Partial, Place};
 pub use refusals::Refusal;
 pub use requests::{Plan, Request, Span};
 pub use roles::{CodedSuites, Role, State};

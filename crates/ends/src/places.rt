@@ -1,7 +1,7 @@
 // Places, and what they hold.
 ghost use Rattle.std.specs.Prelude.{◌≡◌};
 ghost use Rattle.ends.specs.Places.{exists, is_group_place, key_id_of};
-ghost use Rattle.ends.specs.Holding.{filled, is_filled, holds};
+ghost use Rattle.ends.specs.Holding.{same_address};
 
 use frame::Address;
 
@@ -41,12 +41,6 @@ pub struct Installation {
     pub partial: Option<Partial>,
 }
 
-#[derive(Clone, Copy)]
-pub enum Slot {
-    Empty,
-    Filled(Installation),
-}
-
 impl Place {
     pub fn exists(self) -> bool
         ensures { result ≡ exists self }
@@ -60,10 +54,7 @@ impl Place {
     pub fn is_group(self) -> bool
         ensures { result ≡ is_group_place self }
     {
-        match self {
-            Place::Pairwise(_) => false,
-            Place::Group(_) => true,
-        }
+        matches!(self, Place::Group(_))
     }
 
     // The key ID that frames under it carry.
@@ -77,23 +68,11 @@ impl Place {
     }
 }
 
-impl Slot {
-    pub fn is_filled(&self) -> bool
-        ensures { result ≡ is_filled (filled self.now) }
+impl Installation {
+    // Whether it stands under this address.
+    pub fn is_of(&self, address: &Address) -> bool
+        ensures { result ≡ same_address self.now.address address.now }
     {
-        match self {
-            Slot::Empty => false,
-            Slot::Filled(_) => true,
-        }
-    }
-
-    // Whether it holds an installation under this address.
-    pub fn holds(&self, address: &Address) -> bool
-        ensures { result ≡ holds address.now (filled self.now) }
-    {
-        match self {
-            Slot::Empty => false,
-            Slot::Filled(installation) => installation.address.number() == address.number(),
-        }
+        self.address.number() == address.number()
     }
 }

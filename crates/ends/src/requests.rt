@@ -30,13 +30,7 @@ impl Span {
     pub fn cut<'a>(&self, frames: &'a [u8]) -> Option<&'a [u8]>
         ensures { MatchOption result (length frames.now < self.now.offset + self.now.length) (λ frame. frame.now ≡ part self.now.offset self.now.length frames.now) }
     {
-        if self.offset > frames.len() {
-            return None;
-        }
-        if self.length > frames.len() - self.offset {
-            return None;
-        }
-        Some(&frames[self.offset..self.offset + self.length])
+        frames.get(self.offset..)?.get(..self.length)
     }
 }
 
