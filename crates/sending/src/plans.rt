@@ -8,7 +8,7 @@ ghost use Rattle.sending.specs.Sent.{next_counter, used, having_sent};
 
 use crate::asked::Asked;
 use crate::checks::pieces;
-use ends::{Installation, Place, Plan, Refusal, Role, Slot, State};
+use ends::{Installation, Place, Plan, Refusal, Role, State};
 use frame::Address;
 use suite::Direction;
 
@@ -107,27 +107,26 @@ impl Asked<'_> {
         ensures { result ≡ outgoing (planned self.now.sizes (held self.now.state.now) self.now.request.now self.now.lengths.message self.now.lengths.frames self.now.lengths.index self.now.lengths.working) }
     {
         self.check_request()?;
-        match self.state.slot(self.request.place) {
-            Slot::Empty => Err(Refusal::PlaceEmpty),
-            Slot::Filled(installation) => {
-                self.check_lengths()?;
-                let plan = self.plan_of(installation);
-                self.check_supply(plan.count, installation.send)?;
-                Ok(Outgoing {
-                    plan,
-                    key: installation.key,
-                })
-            }
-        }
+        let installation = self
+            .state
+            .slot(self.request.place)
+            .ok_or(Refusal::PlaceEmpty)?;
+        self.check_lengths()?;
+        let plan = self.plan_of(installation);
+        self.check_supply(plan.count, installation.send)?;
+        Ok(Outgoing {
+            plan,
+            key: installation.key,
+        })
     }
 }
 
 // So many counters of a place were used.
-fn count_on(slot: &mut Slot, count: u64)
+fn count_on(slot: &mut Option<Installation>, count: u64)
     requires { next_counter (filled slot.old) + count < 2 ^ 64 }
     ensures { filled slot.new ≡ used (filled slot.old) count }
 {
-    if let Slot::Filled(installation) = slot {
+    if let Some(installation) = slot {
         installation.send += count;
     }
 }
@@ -139,6 +138,8 @@ pub fn note_sent(state: &mut State, place: Place, count: u64)
     ensures { held state.new ≡ having_sent (held state.old) place count }
 {
     state.sequence = (state.sequence % SEQUENCE_NUMBERS + 1) % SEQUENCE_NUMBERS;
+    // Kept: a call in each arm. Tried as one reference that the match chooses and an `if let` behind it: what is
+    // written through a reference chosen by branch is not tied to the state, and `search` and `grind` in each branch found no proof.
     match place {
         Place::Pairwise(n) => count_on(&mut state.pairwise[n as usize], count),
         Place::Group(n) => count_on(&mut state.group[n as usize - 1], count),
