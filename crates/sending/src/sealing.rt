@@ -9,7 +9,7 @@ ghost use Rattle.ends.specs.Steps.{rows_begin};
 
 use crate::plans::{Outgoing, direction};
 use ends::{Plan, Span};
-use frame::Header;
+use frame::{Header, Heading};
 use octets::put;
 use suite::Suite;
 
@@ -104,17 +104,14 @@ fn write_coded<S: Suite>(suite: &S, plan: &Plan, key: &[u8], message: &[u8], wor
     ensures length { length (coded S.Suite.means plan.now key.now message.now) ≡ length message.now + S.Suite.means.sizes.code }
     ensures memory { working.new ≡ begins (coded S.Suite.means plan.now key.now message.now) working.old }
 {
-    let size = message.len();
+    let heading = Heading {
+        destination: plan.destination,
+        source: plan.source,
+        priority: 0,
+    };
     put(working, 0, message);
-    suite.code(
-        key,
-        direction(plan.role),
-        &plan.destination,
-        &plan.source,
-        0,
-        message,
-        &mut working[size..],
-    );
+    let behind = &mut working[message.len()..];
+    suite.code(key, direction(plan.role), &heading, message, behind);
 }
 
 // Writes the frames of a granted send, and where each stands. Working memory then holds the message and its code.
