@@ -1,6 +1,6 @@
 // Places, and what they hold.
-ghost use Rattle.std.specs.Prelude.{◌≡◌};
-ghost use Rattle.ends.specs.Places.{exists, is_group_place, key_id_of};
+ghost use Rattle.std.specs.Prelude.{◌≡◌, ◌<◌, true};
+ghost use Rattle.ends.specs.Places.{exists, index_of, is_group_place, key_id_of};
 ghost use Rattle.ends.specs.Holding.{same_address};
 
 use frame::Address;
@@ -47,7 +47,18 @@ impl Place {
     {
         match self {
             Place::Pairwise(n) => n < 16,
-            Place::Group(n) => 0 < n && n < 4,
+            Place::Group(n) => (1..4).contains(&n),
+        }
+    }
+
+    // Where it stands among the slots of an end.
+    pub fn index(self) -> usize
+        ensures value { result ≡ index_of self }
+        ensures within { exists self ≡ true → result < 19 }
+    {
+        match self {
+            Place::Pairwise(n) => usize::from(n),
+            Place::Group(n) => usize::from(n) + 15,
         }
     }
 

@@ -20,10 +20,8 @@ pub struct CodedSuites {
 pub struct State {
     pub role: Role,
     pub own: Address,
-    // what fills places 0 to 15
-    pub pairwise: [Option<Installation>; 16],
-    // key IDs 1 to 3
-    pub group: [Option<Installation>; 3],
+    // what fills each place: pairwise 0 to 15, and then key IDs 1 to 3
+    pub slots: [Option<Installation>; 19],
     // the number of the next message, modulo 4,096
     pub sequence: u16,
     // when the last code failed

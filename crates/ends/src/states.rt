@@ -26,8 +26,7 @@ impl State {
         State {
             role,
             own,
-            pairwise: [None; 16],
-            group: [None; 3],
+            slots: [None; 19],
             sequence: 0,
             last_failure: None,
             block_end: None,
@@ -39,11 +38,7 @@ impl State {
         requires { exists place ≡ true }
         ensures { filled (option_copied result) ≡ (held self.now).at place }
     {
-        let slot = match place {
-            Place::Pairwise(n) => &self.pairwise[n as usize],
-            Place::Group(n) => &self.group[n as usize - 1],
-        };
-        slot.as_ref()
+        self.slots[place.index()].as_ref()
     }
 
     pub fn is_filled(&self, place: Place) -> bool
@@ -58,10 +53,7 @@ impl State {
         requires { exists place ≡ true }
         ensures { held self.new ≡ with_place (held self.old) place (filled slot) }
     {
-        match place {
-            Place::Pairwise(n) => self.pairwise[n as usize] = slot,
-            Place::Group(n) => self.group[n as usize - 1] = slot,
-        }
+        self.slots[place.index()] = slot;
     }
 
     // Whether a suite, with a code or without one, is blocked.
@@ -76,7 +68,7 @@ impl State {
         ensures value { result ≡ place_of_peer (held self.now) address.now }
         ensures within { IfSome result (λ n. n < 16) }
     {
-        find(&self.pairwise, address)
+        find(&self.slots[..16], address)
     }
 }
 
