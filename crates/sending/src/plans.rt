@@ -121,16 +121,6 @@ impl Asked<'_> {
     }
 }
 
-// So many counters of a place were used.
-fn count_on(slot: &mut Option<Installation>, count: u64)
-    requires { next_counter (filled slot.old) + count < 2 ^ 64 }
-    ensures { filled slot.new ≡ used (filled slot.old) count }
-{
-    if let Some(installation) = slot {
-        installation.send += count;
-    }
-}
-
 // So many frames were sent from a place.
 pub fn note_sent(state: &mut State, place: Place, count: u64)
     requires there { exists place ≡ true }
@@ -138,10 +128,7 @@ pub fn note_sent(state: &mut State, place: Place, count: u64)
     ensures { held state.new ≡ having_sent (held state.old) place count }
 {
     state.sequence = (state.sequence % SEQUENCE_NUMBERS + 1) % SEQUENCE_NUMBERS;
-    // Kept: a call in each arm. Tried as one reference that the match chooses and an `if let` behind it: what is
-    // written through a reference chosen by branch is not tied to the state, and `search` and `grind` in each branch found no proof.
-    match place {
-        Place::Pairwise(n) => count_on(&mut state.pairwise[n as usize], count),
-        Place::Group(n) => count_on(&mut state.group[n as usize - 1], count),
+    if let Some(installation) = &mut state.slots[place.index()] {
+        installation.send += count;
     }
 }
