@@ -2,11 +2,11 @@
 ghost use Rattle.std.specs.Prelude.{◌≡◌, ◌≤◌};
 ghost use Rattle.ends.specs.Holding.{held};
 ghost use Rattle.ends.specs.Checks.{first};
-ghost use Rattle.ends.specs.Sends.{pieces, group_from_logger, wrong_source, wrong_destination, request_checks, length_checks, supply_checks};
+ghost use Rattle.ends.specs.Sends.{pieces, request_checks, length_checks, supply_checks};
 
 use crate::asked::{Asked, Lengths};
-use ends::{LAST_TIME, Place, Refusal, Role};
-use frame::{Address, Header};
+use ends::{LAST_TIME, Refusal};
+use frame::Header;
 
 const LONGEST_MESSAGE: usize = 2304;
 
@@ -18,36 +18,6 @@ const LONGEST_PIECE: usize = 2312;
 const MOST_PIECES: usize = 16;
 
 const WORKING_LENGTH: usize = 2560;
-
-// Only a base sends to a group.
-fn group_from_logger(role: Role, place: Place) -> bool
-    ensures { result ≡ group_from_logger role place }
-{
-    match role {
-        Role::Base => false,
-        Role::Logger => place.is_group(),
-    }
-}
-
-// A logger's source is itself: what is given is not read.
-fn wrong_source(role: Role, source: &Address) -> bool
-    ensures { result ≡ wrong_source role source.now }
-{
-    match role {
-        Role::Base => source.is_group(),
-        Role::Logger => false,
-    }
-}
-
-// A base's group message goes to a group; its pairwise destination is not read.
-fn wrong_destination(role: Role, place: Place, destination: &Address) -> bool
-    ensures { result ≡ wrong_destination role place destination.now }
-{
-    match role {
-        Role::Base => place.is_group() && !destination.is_group(),
-        Role::Logger => false,
-    }
-}
 
 // How many pieces so many octets make.
 pub fn pieces(size: usize, piece_length: usize) -> usize
@@ -63,19 +33,24 @@ impl Asked<'_> {
         ensures { result ≡ first (request_checks self.now.sizes (held self.now.state.now) self.now.request.now) tt }
     {
         let Asked { state, request, .. } = self;
+        let base = state.role.is_base();
+        let group = request.place.is_group();
         if request.time > LAST_TIME {
             return Err(Refusal::ClockRange);
         }
         if !request.place.exists() {
             return Err(Refusal::NoSuchPlace);
         }
-        if group_from_logger(state.role, request.place) {
+        // only a base sends to a group
+        if !base && group {
             return Err(Refusal::NoSuchPlace);
         }
-        if wrong_source(state.role, &request.source) {
+        // a logger's source is itself: what is given is not read
+        if base && request.source.is_group() {
             return Err(Refusal::WrongAddress);
         }
-        if wrong_destination(state.role, request.place, &request.destination) {
+        // a base's group message goes to a group; its pairwise destination is not read
+        if base && group && !request.destination.is_group() {
             return Err(Refusal::WrongAddress);
         }
         if state.is_blocked(self.sizes.code > 0, request.time) {

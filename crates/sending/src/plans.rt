@@ -33,6 +33,7 @@ struct Addressing {
 }
 
 // The direction in which an end of this role sends.
+// Kept: a match in place of a `From`, which would hide that a role also hears, in the other direction.
 pub fn direction(role: Role) -> Direction
     ensures { result ≡ direction_from role }
 {

@@ -11,6 +11,8 @@ use ends::{Refusal, Request, Span, State};
 use suite::Suite;
 
 // Sends a message over the suite of its place. The working memory is left as it happens to be: its owner wipes it.
+// Kept: the three memories one by one. A struct of them would be no plainer: each caller lends three memories of its
+// own for this one call, and the contract says of each what it holds before and after.
 pub fn send_over<S: Suite>(
     suite: &S,
     state: &mut State,
