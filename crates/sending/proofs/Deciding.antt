@@ -22,15 +22,6 @@ use Rattle.sending.specs.Sent.{next_counter}
 
 -- results in general
 
--- checks that refuse do so whatever they would let through
-refused_alike : {A B : Type 0} (cs : List Check) (x : A) (y : B) (r : Refusal) → first cs x ≡ Err r → first cs y ≡ Err r
-refused_alike [] x y r e = cc
-refused_alike {A} {B} (c ∷ cs) x y r e = go c.0 (first cs x) (first cs y) (refused_alike cs x y r) e
-  where
-    go : (b : Bool) (l : Result A Refusal) (m : Result B Refusal) → (l ≡ Err r → m ≡ Err r) → cond b (Err c.1) l ≡ Err r → cond b (Err c.1) m ≡ Err r
-    go true l m step e = cc
-    go false l m step e = step e
-
 -- no check of a list applies
 abbrev NoneApplies : List Check → Type 0
 NoneApplies [] = Unit {0}
@@ -63,15 +54,6 @@ module _ (z : Sizes) (e : End) (q : Request) (size frames index working : ℕ) w
 
   abbrev at_place : Result (Filling × Plan) Refusal
   at_place = then (or_refuse PlaceEmpty (e.at q.place)) at_lengths
-
-  -- refused at the last stage
-  pub supply_refused : (f : Filling) (p : Plan) (r : Refusal) → Ok tt ≡ first (request_checks z e q) (tt {0}) → e.at q.place ≡ Some f → Ok tt ≡ first (length_checks z size q.piece_length) (tt {0}) → p ≡ plan_of z e q size f → Err r ≡ first (supply_checks z size p.count f.send frames index working) (tt {0}) → planned z e q size frames index working ≡ Err r
-  supply_refused f p r asked there long is refused =
-      let checks : Plan → List Check = λ p. supply_checks z size p.count f.send frames index working in
-      let reached : planned z e q size frames index working ≡ at_supply f =
-      λ i. then (sym asked i) (λ _. then (or_refuse PlaceEmpty (there i)) (λ g. then (sym long i) (λ _. at_supply g))) in
-      let spent : first (checks (plan_of z e q size f)) (tt {0}) ≡ Err r = ap (λ p. first (checks p) (tt {0})) (sym is) ∙ sym refused in
-      reached ∙ refused_alike (checks (plan_of z e q size f)) tt (f, plan_of z e q size f) r spent
 
   -- what each stage of a grant says
   pub record Passed (x : Filling × Plan) : Type 0 where
@@ -122,7 +104,6 @@ planned_for z e s = planned z e s.request (length s.message) (length s.frames) (
 -- a send is granted: what fills its place, and what its frames can rely on
 pub record Grants (z : Sizes) (e : End) (s : Sending) (o : Outgoing) : Type 0 where
   pub fill : Filling
-  pub there : exists s.request.place ≡ true
   pub fills : e.at s.request.place ≡ Some fill
   pub is_planned : planned_for z e s ≡ Ok (fill, o.plan)
   pub is_key : o.key ≡ fill.key
@@ -181,7 +162,6 @@ module _ (z z' : Sizes) (same : z ≡ z') (state : State) (s : Sending) where
       let next : next_counter (e.at q.place) ≡ o.plan.counter = ap next_counter w.there ∙ ap (λ p. p.counter) w.plan in
       record {
         fill = x.0;
-        there = not-false (exists q.place) w.asked.1.0;
         fills = w.there;
         is_planned = x.1;
         is_key = x.2;
