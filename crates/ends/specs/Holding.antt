@@ -4,6 +4,7 @@ use Rattle.octets.specs.Octets.{Octets}
 use Rattle.frame.specs.Addresses.{number}
 use Rattle.frame.specs.declared.addresses.Address.{Address}
 use Rattle.suite.specs.Meaning.{Meaning}
+use Rattle.ends.specs.Joining.{octets_in}
 use Rattle.ends.specs.declared.places.Place.{Place}
 use Rattle.ends.specs.declared.places.Place.TheVariants.{Pairwise}
 use Rattle.ends.specs.declared.places.Installation.{Installation}
@@ -41,7 +42,7 @@ pub record End : Type 0 where
 -- read off memory
 
 abbrev pub part_in : Partial → Part
-part_in p = record { octets = take p.size p.octets; fragment = p.fragment; counter = p.counter; sequence = p.sequence; address1 = p.address1; address2 = p.address2; address3 = p.address3 }
+part_in p = record { octets = octets_in p.joined; fragment = p.fragment; counter = p.counter; sequence = p.sequence; address1 = p.address1; address2 = p.address2; address3 = p.address3 }
 
 abbrev pub part_if : Option Partial → Option Part
 part_if None = None

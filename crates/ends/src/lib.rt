@@ -2,6 +2,7 @@
 #![tactic(auto)]
 
 pub mod answers;
+pub mod joined;
 pub mod places;
 pub mod refusals;
 pub mod requests;
@@ -9,9 +10,10 @@ pub mod roles;
 pub mod states;
 
 pub use answers::{Arrived, Delivery};
+pub use joined::Joined;
 pub use places::{Installation, Partial, Place};
 pub use refusals::Refusal;
-pub use requests::{Plan, Request, Span};
+pub use requests::{InstallRequest, Plan, Request, Span};
 pub use roles::{CodedSuites, Role, State};
 
 // The last time that a clock may show, in milliseconds: 2^62.

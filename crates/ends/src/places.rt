@@ -3,7 +3,9 @@ ghost use Rattle.std.specs.Prelude.{◌≡◌, ◌<◌, true};
 ghost use Rattle.ends.specs.Places.{exists, index_of, is_group_place, key_id_of};
 ghost use Rattle.ends.specs.Holding.{same_address};
 
+use crate::joined::Joined;
 use frame::Address;
+use std::fmt;
 
 // The name of a place: pairwise 0 to 15, or a group's by its key ID, 1 to 3. With another number there is no such place.
 #[derive(Clone, Copy, PartialEq, Eq, Debug)]
@@ -12,12 +14,11 @@ pub enum Place {
     Group(u8),
 }
 
-// A message of which the last piece has not come: the pieces joined so far are the first `size` octets. What is beyond
-// them is not part of it.
+// A message of which the last piece has not come.
 #[derive(Clone, Copy)]
 pub struct Partial {
-    pub octets: [u8; 2312],
-    pub size: usize,
+    // the pieces so far
+    pub joined: Joined,
     // what the next piece has to go on from
     pub fragment: u8,
     pub counter: u64,
@@ -79,11 +80,20 @@ impl Place {
     }
 }
 
+impl fmt::Display for Place {
+    fn fmt<W: fmt::Write>(&self, f: &mut fmt::Formatter<W>) -> fmt::Result {
+        match self {
+            Place::Pairwise(n) => write!(f, "pairwise place {n}"),
+            Place::Group(n) => write!(f, "group {n}"),
+        }
+    }
+}
+
 impl Installation {
     // Whether it stands under this address.
     pub fn is_of(&self, address: &Address) -> bool
         ensures { result ≡ same_address self.now.address address.now }
     {
-        self.address.number() == address.number()
+        self.address == *address
     }
 }

@@ -1,4 +1,4 @@
-// What a send is asked for, and how it is carried out.
+// What a send and an install are asked for, and how a send is carried out.
 ghost use Rattle.std.specs.Prelude.{◌≡◌, ◌+◌, ◌<◌, length, MatchOption};
 ghost use Rattle.octets.specs.Octets.{part};
 
@@ -15,6 +15,18 @@ pub struct Request {
     pub source: Address,
     // how long a piece is; the last may be shorter
     pub piece_length: usize,
+    pub time: u64,
+}
+
+// What an install is asked for.
+#[derive(Clone, Copy)]
+pub struct InstallRequest<'a> {
+    pub place: Place,
+    pub key: &'a [u8],
+    // the far end's; of a group, the base's
+    pub address: Address,
+    // what is delivered there must have a counter above it
+    pub start: u64,
     pub time: u64,
 }
 
