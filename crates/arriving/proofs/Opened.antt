@@ -1,5 +1,5 @@
 -- What stands in working memory, by what each step answered.
-use Rattle.std.proofs.Common.{◌≡◌, ℕ, ◌+◌, ◌≤◌, ◌++◌, length, take, drop, IfOk, Ok, Err, Result, sym, ap, ◌∙◌, subst, arith}
+use Rattle.std.proofs.Common.{◌≡◌, ℕ, ◌+◌, ◌≤◌, ◌++◌, length, take, drop, IfOk, MatchResult, IsErrAnd, Ok, Err, Result, sym, ap, ◌∙◌, subst, arith}
 use Rattle.std.proofs.lemmas.List.{take_at}
 use Rattle.std.proofs.lemmas.Result.{IfOk-at_ok}
 use Rattle.octets.specs.Octets.{Octets, begins}
@@ -21,6 +21,12 @@ use Rattle.arriving.proofs.Joins.{whole_length}
 
 pub unlike : {A B X : Type 0} (x : A) (y : B) → ◌≡◌ {A = Result A B} (Ok x) (Err y) → X
 unlike x y e = let z : ◌≡◌ {A = ℕ} 0 1 = cc in absurd (omega arith)
+
+-- a fault that became a refusal
+pub raised_by : {T E : Type 0} {P : E → Refusal → Type 0} (refusal : E → Refusal) (o : Result T E) (r : Result T Refusal) → MatchResult o (λ x. r ≡ Ok x) (λ fault. IsErrAnd r (P fault)) → ((fault : E) (d : Refusal) → P fault d → d ≡ refusal fault) → r ≡ raised refusal o
+raised_by refusal (Ok x) r m tells = m
+raised_by refusal (Err fault) (Ok x) m tells = absurd m
+raised_by refusal (Err fault) (Err d) m tells = ap Err (tells fault d m)
 
 -- a piece that was opened, where the suite's answer passed on
 opened_piece : (z : Sizes) (body old memory : Octets) (q : Place) (fragment size : ℕ) (piece : Result Octets OpenFault) (o : Result ℕ PieceFault) → o ≡ piece_length piece → IfOk o (λ n. n ≤ length old) → memory ≡ left_by_open z body piece old → Ok size ≡ raised (refused_at q fragment) o → (size ≤ length memory) × (raised (OpenRefused q fragment) piece ≡ Ok (take size memory))

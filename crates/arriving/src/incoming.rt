@@ -1,6 +1,15 @@
 // A frame on its way to its place.
-use ends::Place;
+use ends::{CodedSuites, Place, Role};
 use frame::Header;
+
+// A frame that was admitted, when it came, and which of the end's suites have a code.
+#[derive(Clone, Copy)]
+pub struct Admitted<'h, 'f> {
+    pub coded: CodedSuites,
+    pub header: &'h Header,
+    pub frame: &'f [u8],
+    pub time: u64,
+}
 
 // A frame whose header and head were read, and the place that it is for.
 #[derive(Clone, Copy)]
@@ -10,4 +19,12 @@ pub struct Incoming<'h, 'f> {
     // of its piece
     pub counter: u64,
     pub frame: &'f [u8],
+}
+
+// A frame that an end of this role hears, and the suite that it is over.
+#[derive(Drop)]
+pub struct Hearing<'s, 'h, 'f, S> {
+    pub suite: &'s S,
+    pub role: Role,
+    pub incoming: Incoming<'h, 'f>,
 }

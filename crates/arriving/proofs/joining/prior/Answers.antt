@@ -7,13 +7,13 @@ use Rattle.ends.specs.Arrivals.{octets_of}
 use Rattle.arriving.proofs.Joins.{take-least}
 use Rattle.arriving.proofs.joining.prior.Goals as goal
 
-pub returns-in-Some : goal.returns-in-Some
-returns-in-Some c =
+pub returns : goal.returns
+returns c =
     let p = c.in-Some.partial in
     let fragment = c.args.header.now.fragment in
     let long : length p.octets ≡ 2312 = omega arith in
-    let least : c.min-size.result - 0 ≡ min p.size 2312 = omega arith in
-    let short = length-take (c.min-size.result - 0) p.octets in
+    let least : c.min.result - 0 ≡ min p.size 2312 = omega arith in
+    let short = length-take (c.min.result - 0) p.octets in
     record {
       value = ap (λ n. take n p.octets) least
           ∙ take-least p.octets p.size 2312 long

@@ -4,14 +4,14 @@ use Rattle.std.proofs.lemmas.List.{take_rest}
 use Rattle.ends.specs.Holding.{filling, key_for}
 use Rattle.ends.specs.Arrivals.{direction_to, destination_in, source_in, message_in, code_in}
 use Rattle.arriving.proofs.Joins.{begins_all}
-use Rattle.arriving.proofs.completing.code_agrees.Goals as goal
+use Rattle.arriving.proofs.incoming.Hearing.code_agrees.Goals as goal
 
 pub returns : goal.returns
 returns g c =
     let M = g.S.Suite.means in
     let whole = c.args.whole.now in
-    let h = c.args.header.now in
-    let role = c.args.role in
+    let h = c.args.self.now.incoming.header.now in
+    let role = c.args.self.now.role in
     let size = length whole - length c.args.code.now in
     let same : size ≡ length whole - M.sizes.code = ap (λ n. length whole - n) c.requires.code in
     let rest : take (length whole - size) (drop size whole) ≡ code_in M.sizes.code whole = take_rest whole size ∙ ap (λ n. drop n whole) same in
