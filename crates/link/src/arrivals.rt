@@ -10,7 +10,7 @@ ghost use Rattle.link.specs.Whole.{held_by, SameSuites};
 
 use crate::link_ends::LinkEnd;
 use admission::admit;
-use arriving::arrive_over;
+use arriving::{Admitted, arrive_over};
 use ends::{Arrived, CodedSuites, Refusal};
 use octets::Wipe;
 use suite::Suite;
@@ -19,11 +19,9 @@ use suite::Suite;
 fn coded_suites<P: Suite, G: Suite>() -> CodedSuites
     ensures { result ≡ coded_suites (suites P.Suite.means G.Suite.means) }
 {
-    let pairwise = P::sizes();
-    let group = G::sizes();
     CodedSuites {
-        pairwise: pairwise.code > 0,
-        group: group.code > 0,
+        pairwise: P::sizes().code > 0,
+        group: G::sizes().code > 0,
     }
 }
 
@@ -50,14 +48,17 @@ impl<P: Suite, G: Suite> LinkEnd<P, G> {
             guard.octets.len(),
             message.len(),
         )?;
+        let admitted = Admitted {
+            coded,
+            header: &header,
+            frame,
+            time,
+        };
         if header.address1.is_group() {
             arrive_over(
                 &self.group_suite,
                 &mut self.state,
-                coded,
-                &header,
-                frame,
-                time,
+                &admitted,
                 guard.octets,
                 message,
             )
@@ -65,10 +66,7 @@ impl<P: Suite, G: Suite> LinkEnd<P, G> {
             arrive_over(
                 &self.pairwise_suite,
                 &mut self.state,
-                coded,
-                &header,
-                frame,
-                time,
+                &admitted,
                 guard.octets,
                 message,
             )
