@@ -7,7 +7,7 @@ use octets::{little, put};
 
 // What a header says. The retry, power management and more data flags, and the duration, say nothing here: they are
 // written as zeros and not read.
-#[derive(Clone, Copy, Debug)]
+#[derive(Clone, Copy, PartialEq, Eq, Debug)]
 pub struct Header {
     pub to_ds: bool,
     pub from_ds: bool,
@@ -57,11 +57,8 @@ impl Header {
         put(&mut octets, 4, &self.address1.octets);
         put(&mut octets, 10, &self.address2.octets);
         put(&mut octets, 16, &self.address3.octets);
-        little::put_u16(
-            &mut octets,
-            22,
-            self.sequence * 16 + u16::from(self.fragment),
-        );
+        let control = u64::from(self.sequence) * 16 + u64::from(self.fragment);
+        little::put_number::<2>(&mut octets, 22, control);
         octets
     }
 
@@ -76,7 +73,7 @@ impl Header {
             return Err(HeaderFault::NotData);
         }
         let flags = frame[1];
-        let control = little::u16_at(frame, 22);
+        let control = little::number_at::<2>(frame, 22);
         Ok(Header {
             to_ds: flags % 2 == 1,
             from_ds: flags / 2 % 2 == 1,
@@ -86,7 +83,7 @@ impl Header {
             address1: Address::at(frame, 4),
             address2: Address::at(frame, 10),
             address3: Address::at(frame, 16),
-            sequence: control / 16,
+            sequence: (control / 16) as u16,
             fragment: (control % 16) as u8,
         })
     }

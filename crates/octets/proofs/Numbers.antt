@@ -1,7 +1,7 @@
 -- Numbers in octets: as long as asked, made of octets, and read back as they were written, in both orders.
 use Rattle.std.proofs.Common.{◌≡◌, ℕ, zero, suc, ◌+◌, ◌*◌, ◌/◌, ◌%◌, ◌^◌, ◌<◌, [], ◌∷◌, ◌++◌, reverse, length, get_or, drop, sym, refl, ap, ◌∙◌, subst, pow-suc, arith}
 use mathlib.Core.List.{reverse_aux}
-use Rattle.std.proofs.ByRecursion.{All-append, All-take, All-drop}
+use Rattle.std.proofs.ByRecursion.{All-append, All-take, All-drop, All-from_get_or}
 use Rattle.std.proofs.lemmas.List.{length-reverse, reverse-reverse}
 use Rattle.octets.specs.Octets.{Octets, AreOctets, part, little, big, little_octets, big_octets}
 
@@ -24,6 +24,10 @@ AreOctets-append xs ys p q = All-append (λ x. x < 256) xs ys p q
 
 pub AreOctets_part : (at n : ℕ) (xs : Octets) → AreOctets xs → AreOctets (part at n xs)
 AreOctets_part at n xs all = All-take (λ x. x < 256) n (drop at xs) (All-drop (λ x. x < 256) at xs all)
+
+-- what the type of a memory says
+pub AreOctets-part_at : (at n : ℕ) (xs : Octets) → ((i : ℕ) → get_or xs i 0 < 256) → AreOctets (part at n xs)
+AreOctets-part_at at n xs each = AreOctets_part at n xs (All-from_get_or (λ x. x < 256) xs 0 (λ i inside. each i))
 
 -- a number is read back from as many octets as it has
 pub little_from_octets : (n v : ℕ) → v < 256 ^ n → little (little_octets n v) ≡ v

@@ -94,7 +94,7 @@ begun_more done ys old before after all a long joined was now =
     now ∙ ap (written a ys) was ∙ written_next a done ys old long ∙ ap (λ l. begins l old) joined
 
 -- a write to all of a memory from a place on
-put_mid_rest : (n : ℕ) (memory xs : Octets) → put_mid n (length memory - n) memory xs ≡ take n memory ++ xs
+pub put_mid_rest : (n : ℕ) (memory xs : Octets) → put_mid n (length memory - n) memory xs ≡ take n memory ++ xs
 put_mid_rest n memory xs =
     let none = drop_all (length memory - n) (drop n memory) (omega (arith, length-drop n memory)) in
     ap (λ l. take n memory ++ (xs ++ l)) none ∙ ap (λ l. take n memory ++ l) (append-nil xs)

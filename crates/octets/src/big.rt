@@ -4,52 +4,23 @@ ghost use Rattle.octets.specs.Octets.{big, big_octets, part, written};
 
 use crate::put;
 
-pub fn u16_at(octets: &[u8], at: usize) -> u16
-    requires { at + 2 ≤ length octets.now }
-    ensures { result ≡ big (part at 2 octets.now) }
+// The number that N octets write at a place.
+pub fn number_at<const N: usize>(octets: &[u8], at: usize) -> u64
+    requires width { N ≤ 8 }
+    requires room { at + N ≤ length octets.now }
+    ensures value { result ≡ big (part at N octets.now) }
+    ensures bound { result < 256 ^ N }
 {
-    let here = &octets[at..at + 2];
-    u16::from_be_bytes([here[0], here[1]])
+    let mut word = [0u8; 8];
+    word[8 - N..].copy_from_slice(&octets[at..at + N]);
+    u64::from_be_bytes(word)
 }
 
-pub fn u32_at(octets: &[u8], at: usize) -> u32
-    requires { at + 4 ≤ length octets.now }
-    ensures { result ≡ big (part at 4 octets.now) }
+// Writes the N lowest octets of a number at a place.
+pub fn put_number<const N: usize>(memory: &mut [u8], at: usize, value: u64)
+    requires width { N ≤ 8 }
+    requires room { at + N ≤ length memory.old }
+    ensures { memory.new ≡ written at (big_octets N value) memory.old }
 {
-    let here = &octets[at..at + 4];
-    u32::from_be_bytes([here[0], here[1], here[2], here[3]])
-}
-
-pub fn u48_at(octets: &[u8], at: usize) -> u64
-    requires { at + 6 ≤ length octets.now }
-    ensures value { result ≡ big (part at 6 octets.now) }
-    ensures bound { result < 2 ^ 48 }
-{
-    let here = &octets[at..at + 6];
-    u64::from_be_bytes([0, 0, here[0], here[1], here[2], here[3], here[4], here[5]])
-}
-
-pub fn put_u16(memory: &mut [u8], at: usize, value: u16)
-    requires { at + 2 ≤ length memory.old }
-    ensures { memory.new ≡ written at (big_octets 2 value) memory.old }
-{
-    let [a, b] = value.to_be_bytes();
-    put(memory, at, &[a, b]);
-}
-
-pub fn put_u32(memory: &mut [u8], at: usize, value: u32)
-    requires { at + 4 ≤ length memory.old }
-    ensures { memory.new ≡ written at (big_octets 4 value) memory.old }
-{
-    let [a, b, c, d] = value.to_be_bytes();
-    put(memory, at, &[a, b, c, d]);
-}
-
-// The 48 lowest bits of a value.
-pub fn put_u48(memory: &mut [u8], at: usize, value: u64)
-    requires { at + 6 ≤ length memory.old }
-    ensures { memory.new ≡ written at (big_octets 6 value) memory.old }
-{
-    let [_, _, a, b, c, d, e, f] = value.to_be_bytes();
-    put(memory, at, &[a, b, c, d, e, f]);
+    put(memory, at, &value.to_be_bytes()[8 - N..]);
 }

@@ -1,9 +1,10 @@
 // Octets in lent memory: copied, filled, compared, wiped; and the numbers that they write.
 #![tactic(auto)]
 
-ghost use Rattle.std.specs.Prelude.{◌≡◌, ◌+◌, ◌≤◌, length, replicate};
+ghost use Rattle.std.specs.Prelude.{◌≡◌, ◌+◌, ◌≤◌, length, replicate, bit_or, bit_xor};
+ghost use Rattle.std.specs.List.{fold, zip};
 ghost use Rattle.std.specs.Str.{bytes_eq};
-ghost use Rattle.octets.specs.Octets.{written};
+ghost use Rattle.octets.specs.Octets.{part, written};
 
 pub mod big;
 pub mod little;
@@ -16,11 +17,28 @@ pub fn put(memory: &mut [u8], at: usize, octets: &[u8])
     memory[at..at + octets.len()].copy_from_slice(octets);
 }
 
+// The octets at a place, as an array.
+pub fn array_at<const N: usize>(octets: &[u8], at: usize) -> [u8; N]
+    requires { at + N ≤ length octets.now }
+    ensures { result ≡ part at N octets.now }
+{
+    let mut array = [0u8; N];
+    array.copy_from_slice(&octets[at..at + N]);
+    array
+}
+
 // Writes one value into each octet of a memory.
 pub fn fill(memory: &mut [u8], value: u8)
     ensures { memory.new ≡ replicate (length memory.old) value }
 {
     memory.fill(value);
+}
+
+// Each bit in which an octet of one list differs from the other list's.
+fn differences(a: &[u8], b: &[u8]) -> u8
+    ensures { result ≡ fold (λ d p. bit_or d (bit_xor p.0 p.1)) 0 (zip a.now b.now) }
+{
+    a.iter().zip(b).fold(0, |differs, (x, y)| differs | (x ^ y))
 }
 
 // Whether two lists of octets are the same. Where their lengths agree each octet is read, so that the time it takes
@@ -31,11 +49,7 @@ pub fn same(a: &[u8], b: &[u8]) -> bool
     if a.len() != b.len() {
         return false;
     }
-    let mut differs = 0u8;
-    for i in 0..a.len() {
-        differs |= a[i] ^ b[i];
-    }
-    differs == 0
+    differences(a, b) == 0
 }
 
 // Lent working memory, which holds only zeros once this value is gone, whichever way a function is left.

@@ -3,10 +3,12 @@
 
 pub mod consequences;
 pub mod faults;
+pub mod heads;
 pub mod sizes;
 pub mod suites;
 
 pub use consequences::laws_follow;
 pub use faults::{HeadFault, OpenFault, PieceFault};
+pub use heads::{key_id_in, key_id_octet};
 pub use sizes::{Direction, Sizes};
 pub use suites::Suite;

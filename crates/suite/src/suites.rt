@@ -12,22 +12,30 @@ ghost use Rattle.suite.specs.Laws.{Heads, Opens, Keeps};
 
 use crate::faults::{HeadFault, OpenFault};
 use crate::sizes::{Direction, Sizes};
-use frame::Address;
+use frame::Heading;
 
 pub trait Suite {
     const HEAD_LENGTH: usize;
 
+    ghost HEAD_LENGTH: { ℕ };
+
     const TAIL_LENGTH: usize;
+
+    ghost TAIL_LENGTH: { ℕ };
 
     const CODE_LENGTH: usize;
 
+    ghost CODE_LENGTH: { ℕ };
+
     const KEY_LENGTH: usize;
+
+    ghost KEY_LENGTH: { ℕ };
 
     const TOP_COUNTER: u64;
 
-    // what the constants and the functions are
-    ghost sizes: { Sizes };
+    ghost TOP_COUNTER: { ℕ };
 
+    // what the functions are
     ghost code: { Octets → Direction → Address → Address → ℕ → Octets → Octets };
 
     ghost seal: { Octets → Octets → ℕ → ℕ → Octets → Octets };
@@ -41,23 +49,30 @@ pub trait Suite {
 
     // The five constants as one value.
     fn sizes() -> Sizes
-        ensures { result ≡ means.sizes };
+        ensures { result ≡ means.sizes }
+    {
+        Sizes {
+            head: Self::HEAD_LENGTH,
+            tail: Self::TAIL_LENGTH,
+            code: Self::CODE_LENGTH,
+            key: Self::KEY_LENGTH,
+            top: Self::TOP_COUNTER,
+        }
+    }
 
     // Writes the code of a message to the start of a memory.
     fn code(
         &self,
         key: &[u8],
         direction: Direction,
-        destination: &Address,
-        source: &Address,
-        priority: u8,
+        heading: &Heading,
         message: &[u8],
         out: &mut [u8],
     )
         requires key { length key.now ≡ means.sizes.key }
         requires room { means.sizes.code ≤ length out.old }
-        ensures length { length (means.code key.now direction destination.now source.now priority message.now) ≡ means.sizes.code }
-        ensures memory { out.new ≡ begins (means.code key.now direction destination.now source.now priority message.now) out.old };
+        ensures length { length (means.code key.now direction heading.now.destination heading.now.source heading.now.priority message.now) ≡ means.sizes.code }
+        ensures memory { out.new ≡ begins (means.code key.now direction heading.now.destination heading.now.source heading.now.priority message.now) out.old };
 
     // Writes a sealed piece, from its head to its tail, to the start of a memory.
     fn seal(
@@ -100,7 +115,7 @@ pub trait Suite {
         ensures says { Opens means.sizes body.now result }
         ensures memory { out.new ≡ left_by_open means.sizes body.now (means.opens key.now header.now body.now) out.old };
 
-    ghost built: { means ≡ meaning sizes code seal head «open» };
+    ghost built: { means ≡ meaning (record { head = HEAD_LENGTH; tail = TAIL_LENGTH; code = CODE_LENGTH; key = KEY_LENGTH; top = TOP_COUNTER }) code seal head «open» };
 
     ghost keeps: { Keeps means };
 }

@@ -71,13 +71,13 @@ fn header_is_read(rt: HostRuntime) -> Result<(), Fail> {
 #[test]
 fn numbers_in_octets(rt: HostRuntime) {
     let mut memory = [0xee; 8];
-    little::put_u48(&mut memory, 1, 0x0102_0304_0506);
+    little::put_number::<6>(&mut memory, 1, 0x0102_0304_0506);
     assert!(rt; same(&memory, &[0xee, 6, 5, 4, 3, 2, 1, 0xee]));
-    assert_eq!(rt; little::u48_at(&memory, 1), 0x0102_0304_0506);
-    assert_eq!(rt; big::u16_at(&memory, 5), 0x0201);
-    big::put_u32(&mut memory, 0, 0xa1a2_a3a4);
+    assert_eq!(rt; little::number_at::<6>(&memory, 1), 0x0102_0304_0506);
+    assert_eq!(rt; big::number_at::<2>(&memory, 5), 0x0201);
+    big::put_number::<4>(&mut memory, 0, 0xa1a2_a3a4);
     assert!(rt; same(&memory, &[0xa1, 0xa2, 0xa3, 0xa4, 3, 2, 1, 0xee]));
-    assert_eq!(rt; little::u32_at(&memory, 0), 0xa4a3_a2a1);
+    assert_eq!(rt; little::number_at::<4>(&memory, 0), 0xa4a3_a2a1);
 }
 
 const KEY: [u8; 4] = [9, 8, 7, 6];
