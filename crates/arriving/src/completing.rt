@@ -11,7 +11,7 @@ ghost use Rattle.arriving.specs.declared.completing.Failure.TheVariants.{Refused
 use crate::incoming::Hearing;
 use crate::pieces::key_for;
 use ends::{Arrived, Delivery, Installation, Refusal, Role, Slot};
-use frame::{Address, Header};
+use frame::{Header, Heading};
 use octets::same;
 use suite::{Direction, Suite};
 
@@ -41,21 +41,20 @@ fn direction_to(role: Role) -> Direction
     }
 }
 
-fn destination_in(role: Role, header: &Header) -> &Address
-    ensures { result.now ≡ destination_in role header.now }
+// Whom a message goes to and whom it comes from, as an end of this role reads them. It carries no priority.
+fn heading_in(role: Role, header: &Header) -> Heading
+    ensures destination { result.destination ≡ destination_in role header.now }
+    ensures source { result.source ≡ source_in role header.now }
+    ensures priority { result.priority ≡ 0 }
 {
-    match role {
-        Role::Base => &header.address3,
-        Role::Logger => &header.address1,
-    }
-}
-
-fn source_in(role: Role, header: &Header) -> &Address
-    ensures { result.now ≡ source_in role header.now }
-{
-    match role {
-        Role::Base => &header.address2,
-        Role::Logger => &header.address3,
+    let (destination, source) = match role {
+        Role::Base => (header.address3, header.address2),
+        Role::Logger => (header.address1, header.address3),
+    };
+    Heading {
+        destination,
+        source,
+        priority: 0,
     }
 }
 
@@ -67,13 +66,11 @@ impl<S: Suite> Hearing<'_, '_, '_, S> {
         ensures { result ≡ code_agrees S.Suite.means self.now.role (filling installation.now) self.now.incoming.header.now whole.now }
     {
         let size = whole.len() - code.len();
-        let header = self.incoming.header;
+        let heading = heading_in(self.role, self.incoming.header);
         self.suite.code(
             key_for::<S>(installation),
             direction_to(self.role),
-            destination_in(self.role, header),
-            source_in(self.role, header),
-            0,
+            &heading,
             &whole[0..size],
             code,
         );
@@ -108,10 +105,11 @@ impl<S: Suite> Hearing<'_, '_, '_, S> {
         }
         message[0..length].copy_from_slice(&whole[0..length]);
         installation.replay = incoming.counter;
+        let heading = heading_in(self.role, header);
         Ok(Arrived::Delivered(Delivery {
             place: incoming.place,
-            destination: destination_in(self.role, header).number(),
-            source: source_in(self.role, header).number(),
+            destination: heading.destination.number(),
+            source: heading.source.number(),
             counter: incoming.counter,
             length,
         }))

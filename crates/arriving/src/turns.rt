@@ -17,9 +17,9 @@ fn follows(before: u64, after: u64) -> bool
 fn has_addresses(partial: &Partial, header: &Header) -> bool
     ensures { result ≡ all (same_address partial.now.address1 header.now.address1 ∷ same_address partial.now.address2 header.now.address2 ∷ same_address partial.now.address3 header.now.address3 ∷ []) }
 {
-    partial.address1.number() == header.address1.number()
-        && partial.address2.number() == header.address2.number()
-        && partial.address3.number() == header.address3.number()
+    partial.address1 == header.address1
+        && partial.address2 == header.address2
+        && partial.address3 == header.address3
 }
 
 // Whether a later fragment goes on from a partial message.

@@ -17,7 +17,7 @@ returns g c =
     let rest : take (length whole - size) (drop size whole) ≡ code_in M.sizes.code whole = take_rest whole size ∙ ap (λ n. drop n whole) same in
     let none : size - 0 ≡ size = omega arith in
     let front : take (size - 0) whole ≡ message_in M.sizes.code whole = ap (λ n. take n whole) (none ∙ same) in
-    let reckoned = M.code c.key_for.result.now c.direction_to.result c.destination_in.result.now c.source_in.result.now 0 (take (size - 0) whole) in
-    let right : reckoned ≡ M.code (key_for M (filling c.args.installation.now)) (direction_to role) (destination_in role h) (source_in role h) 0 (message_in M.sizes.code whole) = λ i. M.code (c.key_for.ensures.value i) (c.direction_to.ensures i) (c.destination_in.ensures i) (c.source_in.ensures i) 0 (front i) in
+    let reckoned = M.code c.key_for.result.now c.direction_to.result c.heading_in-heading.result.destination c.heading_in-heading.result.source c.heading_in-heading.result.priority (take (size - 0) whole) in
+    let right : reckoned ≡ M.code (key_for M (filling c.args.installation.now)) (direction_to role) (destination_in role h) (source_in role h) 0 (message_in M.sizes.code whole) = λ i. M.code (c.key_for.ensures.value i) (c.direction_to.ensures i) (c.heading_in-heading.ensures.destination i) (c.heading_in-heading.ensures.source i) (c.heading_in-heading.ensures.priority i) (front i) in
     let code : c.code.new.out ≡ reckoned = c.code.ensures.memory ∙ begins_all reckoned c.args.code.now (c.requires.code ∙ sym c.code.ensures.length) in
     c.same.ensures ∙ (λ i. bytes_eq ((code ∙ right) i) (rest i))
