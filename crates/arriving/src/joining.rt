@@ -129,11 +129,6 @@ impl<S: Suite> Hearing<'_, '_, '_, S> {
         let opened = self.open_piece(installation, working);
         let size = opened.map_err(|fault| refusal_at(place, fragment, fault))?;
         let code = S::sizes().code;
-        incoming.assemble(
-            code,
-            prior(installation, incoming.header),
-            size,
-            working,
-        )
+        incoming.assemble(code, prior(installation, incoming.header), size, working)
     }
 }
