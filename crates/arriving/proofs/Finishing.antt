@@ -6,6 +6,7 @@ use Rattle.octets.specs.Octets.{Octets, begins}
 use Rattle.frame.specs.Headers.{header_length}
 use Rattle.frame.specs.declared.headers.Header.{Header}
 use Rattle.suite.specs.Meaning.{Meaning}
+use Rattle.suite.specs.declared.faults.HeadFault.{HeadFault}
 use Rattle.ends.specs.declared.places.Place.{Place}
 use Rattle.ends.specs.declared.places.Place.TheVariants.{Pairwise, Group}
 use Rattle.ends.specs.declared.roles.CodedSuites.{CodedSuites}
@@ -84,17 +85,17 @@ pub nothing : (c : CodedSuites) (v : Verdict) (e : End) (old : Octets) (r : Refu
 nothing c v e old r result is answer =
     subst (λ (w : Verdict). Arrives c w e e old old result) (sym is) (record { answered = ap (told Came) answer; holds = λ S coded. refl; message = refl })
 
-module _ (M : Meaning) (e : End) (h : Header) (frame : Octets) (time : ℕ) where
+module _ (M : Meaning) (e : End) (h : Header) (frame : Octets) (time : ℕ) (body : Octets) (here : body ≡ drop header_length frame) where
   -- the verdict at the place that was found
   abbrev pub at_found : ℕ → Place → Result Verdict Refusal
   at_found counter q = then (or_refuse NoMatch (e.at q)) (at_place M e.role q h frame counter time)
 
-  by_head : (head : Result (ℕ × ℕ) Refusal) → raised HeadRefused (M.head (drop header_length frame)) ≡ head → over_suite M e h frame time ≡ then head (λ read. then (matched e h read.1) (at_found read.0))
+  by_head : (head : Result (ℕ × ℕ) HeadFault) → head ≡ M.head body → over_suite M e h frame time ≡ then (raised HeadRefused head) (λ read. then (matched e h read.1) (at_found read.0))
   unfolding over_suite
-  by_head head is = ap (λ (o : Result (ℕ × ℕ) Refusal). then o (λ read. then (matched e h read.1) (at_found read.0))) is
+  by_head head is = ap (λ (o : Result (ℕ × ℕ) HeadFault). then (raised HeadRefused o) (λ read. then (matched e h read.1) (at_found read.0))) (ap M.head (sym here) ∙ sym is)
 
-  pub unread : (r : Refusal) → raised HeadRefused (M.head (drop header_length frame)) ≡ Err r → settled (over_suite M e h frame time) ≡ Refuses r
-  unread r is = ap settled (by_head (Err r) is)
+  pub unread : (fault : HeadFault) → Err fault ≡ M.head body → settled (over_suite M e h frame time) ≡ Refuses (HeadRefused fault)
+  unread fault is = ap settled (by_head (Err fault) is)
 
-  pub by_match : (counter id : ℕ) (place : Result Place Refusal) → raised HeadRefused (M.head (drop header_length frame)) ≡ Ok (counter, id) → matched e h id ≡ place → settled (over_suite M e h frame time) ≡ settled (then place (at_found counter))
-  by_match counter id place read is = ap settled (by_head (Ok (counter, id)) read ∙ ap (λ (o : Result Place Refusal). then o (at_found counter)) is)
+  pub by_match : (counter id : ℕ) (place : Result Place Refusal) → Ok (counter, id) ≡ M.head body → place ≡ matched e h id → settled (over_suite M e h frame time) ≡ settled (then place (at_found counter))
+  by_match counter id place read is = ap settled (by_head (Ok (counter, id)) read ∙ ap (λ (o : Result Place Refusal). then o (at_found counter)) (sym is))

@@ -17,7 +17,7 @@ use admission::{fail, find_place};
 use ends::{Arrived, Place, Refusal, State};
 use suite::Suite;
 
-impl<S: Suite> Hearing<'_, '_, '_, S> {
+impl<S: Suite> Hearing<'_, S> {
     // What a place of the end makes of a frame.
     fn take_at(
         &self,
@@ -49,6 +49,7 @@ fn finish(
     ensures holds { held state.new ≡ recorded admitted.now.coded (held state.old) admitted.now.time taken }
 {
     let fragment = admitted.header.fragment;
+    // Kept: tried as `map_err`, and the proof did not close: nothing is known of a state that its closure changes.
     match taken {
         Ok(arrived) => Ok(arrived),
         Err(Failure::Refused(refusal)) => Err(refusal),
@@ -67,6 +68,7 @@ pub fn arrive_over<S: Suite>(
     suite: &S,
     state: &mut State,
     admitted: &Admitted,
+    // Kept: no plainer: were the two memories one struct, each contract would have to say that it holds the same two.
     working: &mut [u8],
     message: &mut [u8],
 ) -> Result<Arrived, Refusal>

@@ -32,6 +32,7 @@ impl From<Refusal> for Failure {
 }
 
 // The direction from which an end of this role hears.
+// Kept: no plainer: a role stands for two directions, where it sends to and where it hears from, so no `From` is the one.
 fn direction_to(role: Role) -> Direction
     ensures { result ≡ direction_to role }
 {
@@ -58,7 +59,7 @@ fn heading_in(role: Role, header: &Header) -> Heading
     }
 }
 
-impl<S: Suite> Hearing<'_, '_, '_, S> {
+impl<S: Suite> Hearing<'_, S> {
     // Whether the last octets are the code of those before them. The code is reckoned in lent memory.
     fn code_agrees(&self, installation: &Installation, whole: &[u8], code: &mut [u8]) -> bool
         requires code { length code.old ≡ S.Suite.means.sizes.code }

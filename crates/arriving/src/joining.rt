@@ -21,13 +21,12 @@ fn prior<'a>(installation: &'a Installation, header: &Header) -> &'a [u8]
     ensures value { result.now ≡ prior (filling installation.now) header.now }
     ensures most { length result.now ≤ 2312 }
 {
-    let Some(partial) = &installation.partial else {
-        return &[];
-    };
-    if header.fragment == 0 {
-        return &[];
+    match &installation.partial {
+        Some(partial) if header.fragment > 0 => {
+            &partial.octets[0..partial.size.min(LONGEST_PARTIAL)]
+        }
+        _ => &[],
     }
-    &partial.octets[0..partial.size.min(LONGEST_PARTIAL)]
 }
 
 // Moves the first octets of working memory up, and puts others before them.
@@ -62,7 +61,7 @@ fn no_partial() -> Partial {
     }
 }
 
-impl Incoming<'_, '_> {
+impl Incoming<'_> {
     // Joins the piece in working memory to what came before it, where their lengths allow it.
     fn assemble(
         &self,
@@ -114,7 +113,7 @@ impl Incoming<'_, '_> {
     }
 }
 
-impl<S: Suite> Hearing<'_, '_, '_, S> {
+impl<S: Suite> Hearing<'_, S> {
     // Opens a piece that is in turn and joins it to what came before it: how many octets stand in working memory then.
     pub fn gather(&self, installation: &Installation, working: &mut [u8]) -> Result<usize, Refusal>
         requires { Ready S.Suite.means self.now.incoming.frame.now (length working.old) }

@@ -36,7 +36,7 @@ pub fn refusal_at(place: Place, fragment: u8, fault: PieceFault) -> Refusal
     }
 }
 
-impl<S: Suite> Hearing<'_, '_, '_, S> {
+impl<S: Suite> Hearing<'_, S> {
     // Opens the piece of a frame whose head was read.
     pub fn open_piece(
         &self,

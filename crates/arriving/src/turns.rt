@@ -32,7 +32,7 @@ fn continues(partial: &Partial, header: &Header, counter: u64) -> bool
         && has_addresses(partial, header)
 }
 
-impl Incoming<'_, '_> {
+impl Incoming<'_> {
     fn is_out_of_turn(&self, installation: &Installation) -> bool
         ensures { result ≡ out_of_turn (filling installation.now) self.now.header.now self.now.counter }
     {

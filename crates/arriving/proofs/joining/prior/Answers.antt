@@ -7,8 +7,8 @@ use Rattle.ends.specs.Arrivals.{octets_of}
 use Rattle.arriving.proofs.Joins.{take-least}
 use Rattle.arriving.proofs.joining.prior.Goals as goal
 
-pub returns : goal.returns
-returns c =
+pub returns-in-Some : goal.returns-in-Some
+returns-in-Some c =
     let p = c.in-Some.partial in
     let fragment = c.args.header.now.fragment in
     let long : length p.octets ≡ 2312 = omega arith in
@@ -17,6 +17,6 @@ returns c =
     record {
       value = ap (λ n. take n p.octets) least
           ∙ take-least p.octets p.size 2312 long
-          ∙ sym (cond-false (eqb fragment 0) _ _ (ne_eqb fragment 0 c.if-header-eq0.false) ∙ ap (λ (o : Option Partial). octets_of (part_if o)) c.in-Some.is);
+          ∙ sym (cond-false (eqb fragment 0) _ _ (ne_eqb fragment 0 (λ z. omega arith)) ∙ ap (λ (o : Option Partial). octets_of (part_if o)) c.in-Some.is);
       most = omega arith;
     }
