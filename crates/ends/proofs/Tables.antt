@@ -1,52 +1,38 @@
 -- The tables of an end as a function of the place, and a look through them.
-use Rattle.std.proofs.Common.{◌≡◌, ℕ, zero, suc, ◌+◌, ◌-◌, ◌<◌, Bool, true, false, cond, eqb, ◌⊎◌, List, get_or, replicate, Some, None, Option, sym, refl, ap, ◌∙◌, inl, inr, add-one, arith}
+use Rattle.std.proofs.Common.{◌≡◌, ℕ, zero, suc, ◌+◌, ◌<◌, Bool, true, false, cond, ◌⊎◌, List, get_or, replicate, Some, None, Option, sym, refl, ap, ◌∙◌, inl, inr, add-one, arith, rules, set, length}
 use mathlib.Core.Path.{fun_ext}
 use Rattle.std.proofs.lemmas.Bool.{cases_eq}
 use Rattle.ends.specs.declared.places.Place.{Place}
 use Rattle.ends.specs.declared.places.Place.TheVariants.{Pairwise, Group}
-use Rattle.ends.specs.declared.places.Slot.{Slot}
-use Rattle.ends.specs.declared.places.Slot.TheVariants.{Empty}
-use Rattle.ends.specs.Holding.{Filling, filled, table, lowest, lowest_or}
-
--- empty slots hold nothing, nor does what is past their end
-none_there : (k n : ℕ) → filled (get_or (replicate k Empty) n Empty) ≡ None
-none_there zero n = refl
-none_there (suc k) zero = refl
-none_there (suc k) (suc n) = none_there k n
+use Rattle.ends.specs.declared.places.Installation.{Installation}
+use Rattle.ends.specs.Places.{exists, index_of}
+use Rattle.ends.specs.Holding.{filled, table, put, lowest, lowest_or}
 
 cond_same : {A : Type 0} (b : Bool) (x : A) → cond b x x ≡ x
 cond_same true x = refl
 cond_same false x = refl
 
--- both tables, each emptied or left
-abbrev pub emptied_if : Bool → ℕ → List Slot → List Slot
-emptied_if b n slots = cond b (replicate n Empty) slots
-
-abbrev pub cleared : Bool → Bool → (Place → Option Filling) → Place → Option Filling
-cleared pairwise group at (Pairwise n) = cond pairwise None (at (Pairwise n))
-cleared pairwise group at (Group n) = cond group None (at (Group n))
-
-pub emptying : (a b : Bool) (m k : ℕ) (pairwise group : List Slot) → table (emptied_if a m pairwise) (emptied_if b k group) ≡ cleared a b (table pairwise group)
-emptying a b m k pairwise group = fun_ext go
+-- a slot stored in its place
+pub stored : (slots : List (Option Installation)) (p : Place) (slot : Option Installation) → exists p ≡ true → length slots ≡ 19 → table (set slots (index_of p) slot) ≡ put (table slots) p (filled slot)
+stored slots p slot there long = fun_ext (go p there)
   where
-    pairs : (a : Bool) (n : ℕ) → filled (get_or (emptied_if a m pairwise) n Empty) ≡ cond a None (filled (get_or pairwise n Empty))
-    pairs true n = none_there m n
-    pairs false n = refl
+    go : (p : Place) → exists p ≡ true → (q : Place) → table (set slots (index_of p) slot) q ≡ put (table slots) p (filled slot) q
+    go (Pairwise m) e (Pairwise n) = search rules
+    go (Pairwise m) e (Group n) = search rules
+    go (Group m) e (Pairwise n) = search rules
+    go (Group m) e (Group n) = search rules
 
-    groups : (b : Bool) (n : ℕ) → cond (eqb n 0) None (filled (get_or (emptied_if b k group) (n - 1) Empty)) ≡ cond b None (cond (eqb n 0) None (filled (get_or group (n - 1) Empty)))
-    groups true n = ap (cond (eqb n 0) None) (none_there k (n - 1)) ∙ cond_same (eqb n 0) None
-    groups false n = refl
+-- no slot holds anything
+pub all_empty : table (replicate 19 None) ≡ λ p. None
+all_empty = fun_ext go
+  where
+    none_there : (k n : ℕ) → filled (get_or (replicate k None) n None) ≡ None
+    none_there zero n = refl
+    none_there (suc k) zero = refl
+    none_there (suc k) (suc n) = none_there k n
 
-    go : (p : Place) → table (emptied_if a m pairwise) (emptied_if b k group) p ≡ cleared a b (table pairwise group) p
-    go (Pairwise n) = pairs a n
-    go (Group n) = groups b n
-
-none_cleared : (at : Place → Option Filling) (p : Place) → cleared true true at p ≡ None
-none_cleared at (Pairwise n) = refl
-none_cleared at (Group n) = refl
-
-pub all_empty : (m k : ℕ) → table (replicate m Empty) (replicate k Empty) ≡ λ p. None
-all_empty m k = emptying true true m k (replicate m Empty) (replicate k Empty) ∙ fun_ext (none_cleared (table (replicate m Empty) (replicate k Empty)))
+    go : (p : Place) → table (replicate 19 None) p ≡ None
+    go p = ap (λ o. cond (exists p) o None) (none_there 19 (index_of p)) ∙ cond_same (exists p) None
 
 -- none so far, and not here
 pub lowest_more : (test : ℕ → Bool) (i : ℕ) → lowest i test ≡ None → test i ≡ false → lowest (i + 1) test ≡ None

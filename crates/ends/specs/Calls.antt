@@ -4,6 +4,7 @@ use Rattle.octets.specs.Octets.{Octets}
 use Rattle.frame.specs.declared.addresses.Address.{Address}
 use Rattle.ends.specs.declared.places.Place.{Place}
 use Rattle.ends.specs.declared.refusals.Refusal.{Refusal}
+use Rattle.ends.specs.declared.requests.InstallRequest.{InstallRequest}
 use Rattle.ends.specs.declared.requests.Request.{Request}
 use Rattle.ends.specs.declared.requests.Span.{Span}
 use Rattle.ends.specs.declared.answers.Arrived.{Arrived}
@@ -35,6 +36,10 @@ pub record Arrival : Type 0 where
 -- calls from their parts
 abbrev pub installing : Place → Octets → Address → ℕ → ℕ → Installing
 installing place key address start time = record { place = place; key = key; address = address; start = start; time = time }
+
+-- what an install is asked for
+abbrev pub asked : InstallRequest → Installing
+asked r = installing r.place r.key.now r.address r.start r.time
 
 abbrev pub sending : Request → Octets → Octets → List Span → Octets → Sending
 sending request message frames index working = record { request = request; message = message; frames = frames; index = index; working = working }

@@ -1,18 +1,17 @@
 -- What an end holds, and how it is read off its memory. Whatever lies in memory beyond a partial message is not held.
-use Rattle.std.specs.Prelude.{ℕ, zero, suc, ◌+◌, ◌-◌, ◌%◌, Bool, true, false, cond, List, take, Some, None, Option, ◌==◌, slice_index_or}
+use Rattle.std.specs.Prelude.{ℕ, zero, suc, ◌+◌, ◌%◌, Bool, true, false, cond, List, take, Some, None, Option, ◌==◌, slice_index_or}
 use Rattle.octets.specs.Octets.{Octets}
 use Rattle.frame.specs.Addresses.{number}
 use Rattle.frame.specs.declared.addresses.Address.{Address}
 use Rattle.suite.specs.Meaning.{Meaning}
+use Rattle.ends.specs.Joining.{octets_in}
 use Rattle.ends.specs.declared.places.Place.{Place}
-use Rattle.ends.specs.declared.places.Place.TheVariants.{Pairwise, Group}
-use Rattle.ends.specs.declared.places.Slot.{Slot}
-use Rattle.ends.specs.declared.places.Slot.TheVariants.{Empty, Filled}
+use Rattle.ends.specs.declared.places.Place.TheVariants.{Pairwise}
 use Rattle.ends.specs.declared.places.Installation.{Installation}
 use Rattle.ends.specs.declared.places.Partial.{Partial}
 use Rattle.ends.specs.declared.roles.Role.{Role}
 use Rattle.ends.specs.declared.roles.State.{State}
-use Rattle.ends.specs.Places.{same_place}
+use Rattle.ends.specs.Places.{exists, index_of, same_place}
 
 -- a partial message: its joined pieces, and what the next piece has to go on from
 pub record Part : Type 0 where
@@ -43,7 +42,7 @@ pub record End : Type 0 where
 -- read off memory
 
 abbrev pub part_in : Partial → Part
-part_in p = record { octets = take p.size p.octets; fragment = p.fragment; counter = p.counter; sequence = p.sequence; address1 = p.address1; address2 = p.address2; address3 = p.address3 }
+part_in p = record { octets = octets_in p.joined; fragment = p.fragment; counter = p.counter; sequence = p.sequence; address1 = p.address1; address2 = p.address2; address3 = p.address3 }
 
 abbrev pub part_if : Option Partial → Option Part
 part_if None = None
@@ -52,16 +51,16 @@ part_if (Some p) = Some (part_in p)
 abbrev pub filling : Installation → Filling
 filling i = record { key = i.key; address = i.address; send = i.send; replay = i.replay; partial = part_if i.partial }
 
-abbrev pub filled : Slot → Option Filling
-filled Empty = None
-filled (Filled i) = Some (filling i)
+abbrev pub filled : Option Installation → Option Filling
+filled None = None
+filled (Some i) = Some (filling i)
 
-abbrev pub table : List Slot → List Slot → Place → Option Filling
-table pairwise group (Pairwise n) = filled (slice_index_or pairwise n Empty)
-table pairwise group (Group n) = cond (n == 0) None (filled (slice_index_or group (n - 1) Empty))
+-- what a place holds; one that there is not holds nothing
+abbrev pub table : List (Option Installation) → Place → Option Filling
+table slots p = cond (exists p) (filled (slice_index_or slots (index_of p) None)) None
 
 abbrev pub held : State → End
-held s = record { role = s.role; own = s.own; at = table s.pairwise s.group; sequence = s.sequence % 4096; failure = s.last_failure; block = s.block_end }
+held s = record { role = s.role; own = s.own; at = table s.slots; sequence = s.sequence % 4096; failure = s.last_failure; block = s.block_end }
 
 -- the key that a suite is given
 abbrev pub key_for : Meaning → Filling → Octets

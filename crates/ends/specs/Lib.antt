@@ -1,9 +1,10 @@
-pub mod Refusals
-pub mod Places
-pub mod Holding
+pub mod Arrivals
 pub mod Calls
 pub mod Checks
+pub mod Holding
 pub mod Installs
+pub mod Joining
+pub mod Places
+pub mod Refusals
 pub mod Sends
-pub mod Arrivals
 pub mod Steps

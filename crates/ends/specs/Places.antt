@@ -1,5 +1,5 @@
 -- Places by name: sixteen pairwise, 0 to 15, and three for groups, by key ID 1 to 3.
-use Rattle.std.specs.Prelude.{ℕ, Bool, true, false, cond, ◌==◌, nat_lt}
+use Rattle.std.specs.Prelude.{ℕ, ◌+◌, Bool, true, false, cond, ◌==◌, nat_lt}
 use Rattle.suite.specs.Meaning.{Meaning}
 use Rattle.suite.specs.Laws.{Keeps}
 use Rattle.ends.specs.declared.places.Place.{Place}
@@ -10,6 +10,11 @@ use Rattle.ends.specs.declared.roles.Role.TheVariants.{Base, Logger}
 abbrev pub exists : Place → Bool
 exists (Pairwise n) = nat_lt n 16
 exists (Group n) = cond (nat_lt 0 n) (nat_lt n 4) false
+
+-- where a place stands in the memory of an end: the pairwise ones first, and then the groups'
+abbrev pub index_of : Place → ℕ
+index_of (Pairwise n) = n
+index_of (Group n) = n + 15
 
 abbrev pub is_group_place : Place → Bool
 is_group_place (Pairwise n) = false

@@ -2,6 +2,7 @@
 #![tactic(auto)]
 
 pub mod answers;
+pub mod joined;
 pub mod places;
 pub mod refusals;
 pub mod requests;
@@ -9,10 +10,14 @@ pub mod roles;
 pub mod states;
 
 pub use answers::{Arrived, Delivery};
-pub use places::{Installation, Partial, Place, Slot};
+pub use joined::Joined;
+pub use places::{Installation, Partial, Place};
 pub use refusals::Refusal;
-pub use requests::{Plan, Request, Span};
+pub use requests::{InstallRequest, Plan, Request, Span};
 pub use roles::{CodedSuites, Role, State};
+
+// So many slots of an end are pairwise places'; the groups' stand behind them.
+pub const PAIRWISE_PLACES: usize = 16;
 
 // The last time that a clock may show, in milliseconds: 2^62.
 pub const LAST_TIME: u64 = 0x4000_0000_0000_0000;

@@ -1,9 +1,12 @@
 // Places, and what they hold.
-ghost use Rattle.std.specs.Prelude.{◌≡◌};
-ghost use Rattle.ends.specs.Places.{exists, is_group_place, key_id_of};
-ghost use Rattle.ends.specs.Holding.{filled, is_filled, holds};
+ghost use Rattle.std.specs.Prelude.{◌≡◌, ◌<◌, true};
+ghost use Rattle.ends.specs.Places.{exists, index_of, is_group_place, key_id_of};
+ghost use Rattle.ends.specs.Holding.{same_address};
 
+use crate::PAIRWISE_PLACES;
+use crate::joined::Joined;
 use frame::Address;
+use std::fmt;
 
 // The name of a place: pairwise 0 to 15, or a group's by its key ID, 1 to 3. With another number there is no such place.
 #[derive(Clone, Copy, PartialEq, Eq, Debug)]
@@ -12,12 +15,11 @@ pub enum Place {
     Group(u8),
 }
 
-// A message of which the last piece has not come: the pieces joined so far are the first `size` octets. What is beyond
-// them is not part of it.
+// A message of which the last piece has not come.
 #[derive(Clone, Copy)]
 pub struct Partial {
-    pub octets: [u8; 2312],
-    pub size: usize,
+    // the pieces so far
+    pub joined: Joined,
     // what the next piece has to go on from
     pub fragment: u8,
     pub counter: u64,
@@ -41,29 +43,31 @@ pub struct Installation {
     pub partial: Option<Partial>,
 }
 
-#[derive(Clone, Copy)]
-pub enum Slot {
-    Empty,
-    Filled(Installation),
-}
-
 impl Place {
     pub fn exists(self) -> bool
         ensures { result ≡ exists self }
     {
         match self {
             Place::Pairwise(n) => n < 16,
-            Place::Group(n) => 0 < n && n < 4,
+            Place::Group(n) => (1..4).contains(&n),
+        }
+    }
+
+    // Where it stands among the slots of an end.
+    pub fn index(self) -> usize
+        ensures value { result ≡ index_of self }
+        ensures within { exists self ≡ true → result < 19 }
+    {
+        match self {
+            Place::Pairwise(n) => usize::from(n),
+            Place::Group(n) => PAIRWISE_PLACES + usize::from(n) - 1,
         }
     }
 
     pub fn is_group(self) -> bool
         ensures { result ≡ is_group_place self }
     {
-        match self {
-            Place::Pairwise(_) => false,
-            Place::Group(_) => true,
-        }
+        matches!(self, Place::Group(_))
     }
 
     // The key ID that frames under it carry.
@@ -77,23 +81,20 @@ impl Place {
     }
 }
 
-impl Slot {
-    pub fn is_filled(&self) -> bool
-        ensures { result ≡ is_filled (filled self.now) }
-    {
+impl fmt::Display for Place {
+    fn fmt<W: fmt::Write>(&self, f: &mut fmt::Formatter<W>) -> fmt::Result {
         match self {
-            Slot::Empty => false,
-            Slot::Filled(_) => true,
+            Place::Pairwise(n) => write!(f, "pairwise place {n}"),
+            Place::Group(n) => write!(f, "group {n}"),
         }
     }
+}
 
-    // Whether it holds an installation under this address.
-    pub fn holds(&self, address: &Address) -> bool
-        ensures { result ≡ holds address.now (filled self.now) }
+impl Installation {
+    // Whether it stands under this address.
+    pub fn is_of(&self, address: &Address) -> bool
+        ensures { result ≡ same_address self.now.address address.now }
     {
-        match self {
-            Slot::Empty => false,
-            Slot::Filled(installation) => installation.address.number() == address.number(),
-        }
+        self.address == *address
     }
 }

@@ -8,7 +8,7 @@ use frame::HeaderFault;
 use suite::{HeadFault, OpenFault};
 
 // One case for each ground, in the order of the checks. From `Replayed` on, the place and the fragment number.
-#[derive(Clone, Copy, Debug)]
+#[derive(Clone, Copy, PartialEq, Eq, Debug)]
 pub enum Refusal {
     // 1: the time is above 2^62
     ClockRange,
@@ -62,6 +62,8 @@ pub enum Refusal {
 
 impl Refusal {
     // The number that the ground goes by.
+    // Kept: no plainer as a From, since it tells less than the refusal does; and a cast reads no number of a variant with
+    // something inside.
     pub fn number(&self) -> u8
         ensures { result ≡ refusal_number self.now }
     {

@@ -1,4 +1,4 @@
-// What a send is asked for, and how it is carried out.
+// What a send and an install are asked for, and how a send is carried out.
 ghost use Rattle.std.specs.Prelude.{◌≡◌, ◌+◌, ◌<◌, length, MatchOption};
 ghost use Rattle.octets.specs.Octets.{part};
 
@@ -18,6 +18,18 @@ pub struct Request {
     pub time: u64,
 }
 
+// What an install is asked for.
+#[derive(Clone, Copy)]
+pub struct InstallRequest<'a> {
+    pub place: Place,
+    pub key: &'a [u8],
+    // the far end's; of a group, the base's
+    pub address: Address,
+    // what is delivered there must have a counter above it
+    pub start: u64,
+    pub time: u64,
+}
+
 // Where a frame stands in the memory of frames.
 #[derive(Clone, Copy, PartialEq, Eq, Debug)]
 pub struct Span {
@@ -30,13 +42,7 @@ impl Span {
     pub fn cut<'a>(&self, frames: &'a [u8]) -> Option<&'a [u8]>
         ensures { MatchOption result (length frames.now < self.now.offset + self.now.length) (λ frame. frame.now ≡ part self.now.offset self.now.length frames.now) }
     {
-        if self.offset > frames.len() {
-            return None;
-        }
-        if self.length > frames.len() - self.offset {
-            return None;
-        }
-        Some(&frames[self.offset..self.offset + self.length])
+        frames.get(self.offset..)?.get(..self.length)
     }
 }
 

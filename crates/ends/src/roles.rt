@@ -1,5 +1,5 @@
 // What an end holds, whatever its suites are.
-use crate::places::Slot;
+use crate::places::Installation;
 use frame::Address;
 
 // A base collects from many loggers; a logger has one base.
@@ -20,10 +20,8 @@ pub struct CodedSuites {
 pub struct State {
     pub role: Role,
     pub own: Address,
-    // places 0 to 15
-    pub pairwise: [Slot; 16],
-    // key IDs 1 to 3
-    pub group: [Slot; 3],
+    // what fills each place: pairwise 0 to 15, and then key IDs 1 to 3
+    pub slots: [Option<Installation>; 19],
     // the number of the next message, modulo 4,096
     pub sequence: u16,
     // when the last code failed

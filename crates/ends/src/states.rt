@@ -1,12 +1,13 @@
 // The tables of an end: read, searched and changed.
-ghost use Rattle.std.specs.Prelude.{◌≡◌, ◌<◌, ◌≤◌, true, length, IfSome, slice_index_or};
+ghost use Rattle.std.specs.Prelude.{◌≡◌, ◌<◌, ◌≤◌, true, length, None, IfSome, slice_index_or};
+ghost use Rattle.std.specs.Option.{option_copied};
 ghost use Rattle.ends.specs.Places.{exists, is_base};
-ghost use Rattle.ends.specs.Holding.{held, filled, holds, lowest, place_of_peer, with_place};
+ghost use Rattle.ends.specs.Holding.{held, filled, is_filled, holds, lowest, place_of_peer, with_place};
 ghost use Rattle.ends.specs.Checks.{blocked};
 ghost use Rattle.ends.specs.Installs.{new};
-ghost use Rattle.ends.specs.declared.places.Slot.TheVariants.{Empty};
 
-use crate::places::{Place, Slot};
+use crate::PAIRWISE_PLACES;
+use crate::places::{Installation, Place};
 use crate::roles::{Role, State};
 use frame::Address;
 
@@ -14,10 +15,7 @@ impl Role {
     pub fn is_base(self) -> bool
         ensures { result ≡ is_base self }
     {
-        match self {
-            Role::Base => true,
-            Role::Logger => false,
-        }
+        self == Role::Base
     }
 }
 
@@ -29,8 +27,7 @@ impl State {
         State {
             role,
             own,
-            pairwise: [Slot::Empty; 16],
-            group: [Slot::Empty; 3],
+            slots: [None; 19],
             sequence: 0,
             last_failure: None,
             block_end: None,
@@ -38,38 +35,33 @@ impl State {
     }
 
     // What a place holds.
-    pub fn slot(&self, place: Place) -> &Slot
+    pub fn slot(&self, place: Place) -> Option<&Installation>
         requires { exists place ≡ true }
-        ensures { filled result.now ≡ (held self.now).at place }
+        ensures { filled (option_copied result) ≡ (held self.now).at place }
     {
-        match place {
-            Place::Pairwise(n) => &self.pairwise[n as usize],
-            Place::Group(n) => &self.group[n as usize - 1],
-        }
+        self.slots[place.index()].as_ref()
+    }
+
+    pub fn is_filled(&self, place: Place) -> bool
+        requires { exists place ≡ true }
+        ensures { result ≡ is_filled ((held self.now).at place) }
+    {
+        self.slot(place).is_some()
     }
 
     // Fills or empties a place.
-    pub fn put(&mut self, place: Place, slot: Slot)
+    pub fn put(&mut self, place: Place, slot: Option<Installation>)
         requires { exists place ≡ true }
         ensures { held self.new ≡ with_place (held self.old) place (filled slot) }
     {
-        match place {
-            Place::Pairwise(n) => self.pairwise[n as usize] = slot,
-            Place::Group(n) => self.group[n as usize - 1] = slot,
-        }
+        self.slots[place.index()] = slot;
     }
 
     // Whether a suite, with a code or without one, is blocked.
     pub fn is_blocked(&self, coded: bool, time: u64) -> bool
         ensures { result ≡ blocked coded (held self.now) time }
     {
-        if !coded {
-            return false;
-        }
-        match self.block_end {
-            Some(end) => time < end,
-            None => false,
-        }
+        coded && self.block_end.is_some_and(|end| time < end)
     }
 
     // The pairwise place that holds an address.
@@ -77,19 +69,22 @@ impl State {
         ensures value { result ≡ place_of_peer (held self.now) address.now }
         ensures within { IfSome result (λ n. n < 16) }
     {
-        find(&self.pairwise, address)
+        find(&self.slots[..PAIRWISE_PLACES], address)
     }
 }
 
 // The first slot that holds an address.
-fn find(slots: &[Slot], address: &Address) -> Option<u8>
+fn find(slots: &[Option<Installation>], address: &Address) -> Option<u8>
     requires { length slots.now ≤ 16 }
-    ensures value { result ≡ lowest (length slots.now) (λ n. holds address.now (filled (slice_index_or slots.now n Empty))) }
+    ensures value { result ≡ lowest (length slots.now) (λ n. holds address.now (filled (slice_index_or slots.now n None))) }
     ensures within { IfSome result (λ n. n < length slots.now) }
 {
-    for i in 0..slots.len() {
-        if slots[i].holds(address) {
-            return Some(i as u8);
+    for (n, slot) in slots.iter().enumerate() {
+        if slot
+            .as_ref()
+            .is_some_and(|installation| installation.is_of(address))
+        {
+            return Some(n as u8);
         }
     }
     None

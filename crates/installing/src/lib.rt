@@ -4,11 +4,11 @@
 ghost use Rattle.std.specs.Prelude.{◌≡◌, ◌≤◌, true, length, Some, None, OnOk};
 ghost use Rattle.ends.specs.Places.{exists};
 ghost use Rattle.ends.specs.Holding.{held, with_place};
-ghost use Rattle.ends.specs.Calls.{installing};
+ghost use Rattle.ends.specs.Calls.{asked};
 ghost use Rattle.ends.specs.Checks.{first};
 ghost use Rattle.ends.specs.Installs.{new, make_checks, if_granted, misplaced, peer_held, install_checks, installed, kept_key, remove_checks};
 
-use ends::{Installation, LAST_TIME, Place, Refusal, Role, Slot, State};
+use ends::{InstallRequest, Installation, LAST_TIME, Place, Refusal, Role, State};
 use frame::Address;
 use suite::Sizes;
 
@@ -28,7 +28,7 @@ pub fn make(state: &mut State, role: Role, own: &Address) -> Result<(), Refusal>
 fn misplaced(state: &State, place: Place, address: &Address) -> bool
     ensures { result ≡ misplaced (held state.now) place address.now }
 {
-    let is_own = address.number() == state.own.number();
+    let is_own = *address == state.own;
     match place {
         Place::Pairwise(_) => is_own,
         Place::Group(_) => state.role.is_base() && !is_own,
@@ -39,51 +39,40 @@ fn misplaced(state: &State, place: Place, address: &Address) -> bool
 fn peer_held(state: &State, place: Place, address: &Address) -> bool
     ensures { result ≡ peer_held (held state.now) place address.now }
 {
-    match place {
-        Place::Pairwise(_) => state.place_of_peer(address).is_some(),
-        Place::Group(_) => false,
-    }
+    !place.is_group() && state.place_of_peer(address).is_some()
 }
 
 // The checks of install, in order.
-fn check_install(
-    state: &State,
-    sizes: &Sizes,
-    place: Place,
-    key: &[u8],
-    address: &Address,
-    start: u64,
-    time: u64,
-) -> Result<(), Refusal>
-    ensures value { result ≡ first (install_checks sizes.now (held state.now) (installing place key.now address.now start time)) tt }
-    ensures place { OnOk result (exists place ≡ true) }
-    ensures key { OnOk result (length key.now ≡ sizes.now.key) }
+fn check_install(state: &State, sizes: &Sizes, request: &InstallRequest) -> Result<(), Refusal>
+    ensures value { result ≡ first (install_checks sizes.now (held state.now) (asked request.now)) tt }
+    ensures place { OnOk result (exists request.now.place ≡ true) }
+    ensures key { OnOk result (length request.now.key.now ≡ sizes.now.key) }
 {
-    if time > LAST_TIME {
+    if request.time > LAST_TIME {
         return Err(Refusal::ClockRange);
     }
-    if !place.exists() {
+    if !request.place.exists() {
         return Err(Refusal::NoSuchPlace);
     }
-    if address.is_group() {
+    if request.address.is_group() {
         return Err(Refusal::WrongAddress);
     }
-    if misplaced(state, place, address) {
+    if misplaced(state, request.place, &request.address) {
         return Err(Refusal::WrongAddress);
     }
-    if key.len() != sizes.key {
+    if request.key.len() != sizes.key {
         return Err(Refusal::KeyLength);
     }
-    if start > sizes.top {
+    if request.start > sizes.top {
         return Err(Refusal::StartAboveTop);
     }
-    if state.is_blocked(sizes.code > 0, time) {
+    if state.is_blocked(sizes.code > 0, request.time) {
         return Err(Refusal::SuiteBlocked);
     }
-    if state.slot(place).is_filled() {
+    if state.is_filled(request.place) {
         return Err(Refusal::PlaceTaken);
     }
-    if peer_held(state, place, address) {
+    if peer_held(state, request.place, &request.address) {
         return Err(Refusal::PlaceTaken);
     }
     Ok(())
@@ -95,33 +84,25 @@ fn kept_key(key: &[u8]) -> [u8; 32]
     ensures { result ≡ kept_key key.now }
 {
     let mut octets = [0; 32];
-    octets[0..key.len()].copy_from_slice(key);
+    octets[..key.len()].copy_from_slice(key);
     octets
 }
 
 // Fills a place: the first counter sent is 1, and what is delivered must come above the start.
-pub fn install(
-    state: &mut State,
-    sizes: &Sizes,
-    place: Place,
-    key: &[u8],
-    address: &Address,
-    start: u64,
-    time: u64,
-) -> Result<(), Refusal>
+pub fn install(state: &mut State, sizes: &Sizes, request: &InstallRequest) -> Result<(), Refusal>
     requires { sizes.now.key ≤ 32 }
-    ensures answered { result ≡ first (install_checks sizes.now (held state.old) (installing place key.now address.now start time)) tt }
-    ensures holds { held state.new ≡ if_granted result (with_place (held state.old) place (Some (installed (installing place key.now address.now start time)))) (held state.old) }
+    ensures answered { result ≡ first (install_checks sizes.now (held state.old) (asked request.now)) tt }
+    ensures holds { held state.new ≡ if_granted result (with_place (held state.old) request.now.place (Some (installed (asked request.now)))) (held state.old) }
 {
-    check_install(state, sizes, place, key, address, start, time)?;
+    check_install(state, sizes, request)?;
     let installation = Installation {
-        key: kept_key(key),
-        address: *address,
+        key: kept_key(request.key),
+        address: request.address,
         send: 1,
-        replay: start,
+        replay: request.start,
         partial: None,
     };
-    state.put(place, Slot::Filled(installation));
+    state.put(request.place, Some(installation));
     Ok(())
 }
 
@@ -133,9 +114,9 @@ pub fn remove(state: &mut State, place: Place) -> Result<(), Refusal>
     if !place.exists() {
         return Err(Refusal::NoSuchPlace);
     }
-    if !state.slot(place).is_filled() {
+    if !state.is_filled(place) {
         return Err(Refusal::PlaceEmpty);
     }
-    state.put(place, Slot::Empty);
+    state.put(place, None);
     Ok(())
 }

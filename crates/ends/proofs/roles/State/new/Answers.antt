@@ -6,4 +6,4 @@ use Rattle.ends.proofs.roles.State.new.Goals as goal
 
 pub returns : goal.returns
 returns c =
-    ap (λ (at : Place → Option Filling). record { role = c.args.role; own = c.args.own; at = at; sequence = 0; failure = None; block = None }) (all_empty 16 3)
+    ap (λ (at : Place → Option Filling). record { role = c.args.role; own = c.args.own; at = at; sequence = 0; failure = None; block = None }) all_empty

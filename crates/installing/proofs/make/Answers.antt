@@ -1,5 +1,0 @@
-use Rattle.std.proofs.Common.{rules}
-use Rattle.installing.proofs.make.Goals as goal
-
-pub returns : goal.returns
-returns c = record { answered = search rules; holds = c.new.ensures }
