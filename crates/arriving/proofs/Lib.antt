@@ -1,5 +1,4 @@
 pub mod Joins
 pub mod Opened
 pub mod Verdicts
-pub mod Stored
 pub mod Finishing

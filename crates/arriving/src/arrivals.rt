@@ -30,10 +30,8 @@ impl<S: Suite> Hearing<'_, S> {
         requires memory { 2304 ≤ length message.old }
         ensures { (time : ℕ) → Took self.now.incoming.place (settled (then (or_refuse NoMatch ((held state.old).at self.now.incoming.place)) (at_place S.Suite.means self.now.role self.now.incoming.place self.now.incoming.header.now self.now.incoming.frame.now self.now.incoming.counter time))) (held state.old) (held state.new) message.old message.new result }
     {
-        match self.incoming.place {
-            Place::Pairwise(n) => self.take_in(&mut state.pairwise[n as usize], working, message),
-            Place::Group(n) => self.take_in(&mut state.group[n as usize - 1], working, message),
-        }
+        let index = self.incoming.place.index();
+        self.take_in(&mut state.slots[index], working, message)
     }
 }
 

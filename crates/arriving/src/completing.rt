@@ -10,7 +10,7 @@ ghost use Rattle.arriving.specs.declared.completing.Failure.TheVariants.{Refused
 
 use crate::incoming::Hearing;
 use crate::pieces::key_for;
-use ends::{Arrived, Delivery, Installation, Refusal, Role, Slot};
+use ends::{Arrived, Delivery, Installation, Refusal, Role};
 use frame::{Header, Heading};
 use octets::same;
 use suite::{Direction, Suite};
@@ -136,7 +136,7 @@ impl<S: Suite> Hearing<'_, S> {
     // What a place, filled or not, makes of a frame.
     pub fn take_in(
         &self,
-        slot: &mut Slot,
+        slot: &mut Option<Installation>,
         working: &mut [u8],
         message: &mut [u8],
     ) -> Result<Arrived, Failure>
@@ -144,9 +144,7 @@ impl<S: Suite> Hearing<'_, S> {
         requires memory { 2304 ≤ length message.old }
         ensures { (time : ℕ) → Takes (settled (then (or_refuse NoMatch (filled slot.old)) (at_place S.Suite.means self.now.role self.now.incoming.place self.now.incoming.header.now self.now.incoming.frame.now self.now.incoming.counter time))) (filled slot.old) (filled slot.new) message.old message.new result }
     {
-        let Slot::Filled(installation) = slot else {
-            return Err(Failure::Refused(Refusal::NoMatch));
-        };
+        let installation = slot.as_mut().ok_or(Refusal::NoMatch)?;
         self.take(installation, working, message)
     }
 }

@@ -1,20 +1,17 @@
 // Pieces joined in working memory, and held in their place.
 ghost use Rattle.std.specs.Prelude.{◌≡◌, ◌+◌, ◌<◌, ◌≤◌, false, ◌++◌, length, take, IfOk, Some};
-ghost use Rattle.ends.specs.Holding.{filling, part_in, with_partial};
+ghost use Rattle.ends.specs.Holding.{filling, with_partial};
 ghost use Rattle.ends.specs.Checks.{first};
 ghost use Rattle.ends.specs.Arrivals.{prior, too_short, assembly_checks, part_of};
 ghost use Rattle.arriving.specs.Gathering.{Ready, Gives, gathered};
 
 use crate::incoming::{Hearing, Incoming};
 use crate::pieces::refusal_at;
-use ends::{Installation, Partial, Refusal};
-use frame::{Address, Header};
+use ends::{Installation, Joined, Partial, Refusal};
+use frame::Header;
 use suite::Suite;
 
 const LONGEST_MESSAGE: usize = 2304;
-
-// A message and the longest code.
-const LONGEST_PARTIAL: usize = 2312;
 
 // What was joined before a piece: nothing before fragment 0.
 fn prior<'a>(installation: &'a Installation, header: &Header) -> &'a [u8]
@@ -22,9 +19,7 @@ fn prior<'a>(installation: &'a Installation, header: &Header) -> &'a [u8]
     ensures most { length result.now ≤ 2312 }
 {
     match &installation.partial {
-        Some(partial) if header.fragment > 0 => {
-            &partial.octets[0..partial.size.min(LONGEST_PARTIAL)]
-        }
+        Some(partial) if header.fragment > 0 => partial.joined.as_slice(),
         _ => &[],
     }
 }
@@ -44,21 +39,6 @@ fn is_too_short(header: &Header, code: usize, size: usize) -> bool
     ensures { result ≡ too_short header.now code size }
 {
     !header.more_fragments && size <= code
-}
-
-// A partial message of no octets.
-fn no_partial() -> Partial {
-    let nobody = Address { octets: [0; 6] };
-    Partial {
-        octets: [0; LONGEST_PARTIAL],
-        size: 0,
-        fragment: 0,
-        counter: 0,
-        sequence: 0,
-        address1: nobody,
-        address2: nobody,
-        address3: nobody,
-    }
 }
 
 impl Incoming<'_> {
@@ -86,30 +66,21 @@ impl Incoming<'_> {
         Ok(total)
     }
 
-    // Makes of a partial message what the pieces so far leave.
-    fn set(&self, partial: &mut Partial, whole: &[u8])
-        requires { length whole.now ≤ 2312 }
-        ensures { part_in partial.new ≡ part_of self.now.header.now self.now.counter whole.now }
-    {
-        let header = self.header;
-        let size = whole.len();
-        partial.octets[0..size].copy_from_slice(whole);
-        partial.size = size;
-        partial.fragment = header.fragment;
-        partial.counter = self.counter;
-        partial.sequence = header.sequence;
-        partial.address1 = header.address1;
-        partial.address2 = header.address2;
-        partial.address3 = header.address3;
-    }
-
     // Holds the pieces so far, in the place's own memory.
     pub fn hold(&self, installation: &mut Installation, whole: &[u8])
         requires { length whole.now ≤ 2312 }
         ensures { filling installation.new ≡ with_partial (filling installation.old) (Some (part_of self.now.header.now self.now.counter whole.now)) }
     {
-        let partial = installation.partial.get_or_insert_with(no_partial);
-        self.set(partial, whole);
+        let header = self.header;
+        installation.partial = Some(Partial {
+            joined: Joined::from_slice(whole),
+            fragment: header.fragment,
+            counter: self.counter,
+            sequence: header.sequence,
+            address1: header.address1,
+            address2: header.address2,
+            address3: header.address3,
+        });
     }
 }
 
