@@ -3,6 +3,7 @@ use ccmp::Ccmp;
 use suite::{HeadFault, OpenFault, Suite};
 
 // What open answers in place of a length.
+// Kept: C takes numbers for faults, and knows no Result.
 const SHORT: u64 = 10001;
 
 const UNMARKED: u64 = 10002;
@@ -14,6 +15,7 @@ const UNEQUAL: u64 = 10004;
 const NO_ROOM: u64 = 10005;
 
 // Seals a piece; 1 where it cannot be sealed.
+// Kept: C takes a number.
 #[unsafe(no_mangle)]
 pub extern "C" fn rattle_ccmp_seal(
     key: &[u8; 16],

@@ -3,7 +3,7 @@ ghost use Rattle.std.specs.Prelude.{◌≡◌, true, ◌+◌, ◌^◌, ◌<◌, 
 ghost use Rattle.octets.specs.Octets.{begins};
 ghost use Rattle.tkip.specs.Tkip.{tkip_seal};
 
-use frame::Address;
+use frame::{Address, Heading};
 use octets::put;
 use suite::Suite;
 use tkip::Tkip;
@@ -27,6 +27,7 @@ pub extern "C" fn rattle_tkip_seal(
 }
 
 // The length of the piece, or 0 where there is none.
+// Kept: C takes a number, and knows no Option.
 #[unsafe(no_mangle)]
 pub extern "C" fn rattle_tkip_open(key: &[u8], header: &[u8], body: &[u8], out: &mut [u8]) -> usize
     requires key { length key.now ≡ 32 }
@@ -36,10 +37,7 @@ pub extern "C" fn rattle_tkip_open(key: &[u8], header: &[u8], body: &[u8], out: 
     if Tkip.head(body).is_err() {
         return 0;
     }
-    match Tkip.open(key, header, body, out) {
-        Ok(size) => size,
-        Err(_) => 0,
-    }
+    Tkip.open(key, header, body, out).unwrap_or(0)
 }
 
 // The code of a message from the base, whose addresses stand in a header.
@@ -49,15 +47,10 @@ pub extern "C" fn rattle_michael(key: &[u8], header: &[u8], message: &[u8], code
     requires header { length header.now ≡ 24 }
     requires room { 8 ≤ length code.old }
 {
-    put(
-        code,
-        0,
-        &michael::code(
-            key,
-            &Address::at(header, 4),
-            &Address::at(header, 16),
-            0,
-            message,
-        ),
-    );
+    let heading = Heading {
+        destination: Address::at(header, 4),
+        source: Address::at(header, 16),
+        priority: 0,
+    };
+    put(code, 0, &michael::code(key, &heading, message));
 }

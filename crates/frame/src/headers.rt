@@ -45,6 +45,7 @@ impl Header {
     }
 
     // The 24 octets of the header; read, they give the header back.
+    // Kept: no `From`, since a sequence number of 4,096 or more has no octets, and a frame goes on behind its header.
     pub fn octets(&self) -> [u8; 24]
         requires sequence { self.now.sequence < 4096 }
         requires fragment { self.now.fragment < 16 }

@@ -1,6 +1,7 @@
 -- The stages of a send's checks, walked once: what a refusal at the last stage says, and what a grant says.
-use Rattle.std.proofs.Common.{◌≡◌, ℕ, ◌+◌, ◌-◌, ◌*◌, ◌/◌, ◌%◌, ◌<◌, ◌≤◌, Bool, true, false, cond, List, [], ◌∷◌, length, Some, None, Ok, Err, Option, Result, sym, refl, ap, ◌∙◌, subst, ⊎_elim, mod-lt, add-mul, one-mul, div-add-mod', arith}
-use Rattle.std.proofs.lemmas.Bool.{cases_lt, not-false, ltb-false}
+use Rattle.std.proofs.Common.{◌≡◌, ℕ, ◌+◌, ◌-◌, ◌*◌, ◌<◌, ◌≤◌, Bool, true, false, cond, List, [], ◌∷◌, length, Some, None, Ok, Err, Option, Result, sym, refl, ap, ◌∙◌, subst, mod-lt, add-mul, one-mul, arith}
+use Rattle.std.proofs.lemmas.Bool.{not-false, ltb-false}
+use Rattle.std.proofs.lemmas.Grind.{div_ceil_times}
 use Rattle.suite.specs.Laws.{Bounded}
 use Rattle.suite.specs.declared.sizes.Sizes.{Sizes}
 use Rattle.ends.specs.declared.places.Place.{Place}
@@ -21,15 +22,6 @@ use Rattle.sending.specs.Sent.{next_counter}
 
 -- results in general
 
--- checks that refuse do so whatever they would let through
-refused_alike : {A B : Type 0} (cs : List Check) (x : A) (y : B) (r : Refusal) → first cs x ≡ Err r → first cs y ≡ Err r
-refused_alike [] x y r e = absurd (let z : ◌≡◌ {A = ℕ} 0 1 = cc in omega arith)
-refused_alike {A} {B} (c ∷ cs) x y r e = go c.0 (first cs x) (first cs y) (refused_alike cs x y r) e
-  where
-    go : (b : Bool) (l : Result A Refusal) (m : Result B Refusal) → (l ≡ Err r → m ≡ Err r) → cond b (Err c.1) l ≡ Err r → cond b (Err c.1) m ≡ Err r
-    go true l m step e = cc
-    go false l m step e = step e
-
 -- no check of a list applies
 abbrev NoneApplies : List Check → Type 0
 NoneApplies [] = Unit {0}
@@ -40,16 +32,16 @@ none_applies [] x y e = (tt, cc)
 none_applies {A} (c ∷ cs) x y e = go c.0 (first cs x) (none_applies cs x y) e
   where
     go : (b : Bool) (l : Result A Refusal) → (l ≡ Ok y → NoneApplies cs × (x ≡ y)) → cond b (Err c.1) l ≡ Ok y → ((b ≡ false) × NoneApplies cs) × (x ≡ y)
-    go true l step e = absurd (let z : ◌≡◌ {A = ℕ} 0 1 = cc in omega arith)
+    go true l step e = cc
     go false l step e = let rest = step e in ((refl, rest.0), rest.1)
 
 then_ok : {A B : Type 0} (r : Result A Refusal) (next : A → Result B Refusal) (y : B) → then r next ≡ Ok y → (x : A) × (r ≡ Ok x) × (next x ≡ Ok y)
 then_ok (Ok x) next y e = (x, refl, e)
-then_ok (Err r) next y e = absurd (let z : ◌≡◌ {A = ℕ} 0 1 = cc in omega arith)
+then_ok (Err r) next y e = cc
 
 some_there : {A : Type 0} (r : Refusal) (o : Option A) (x : A) → or_refuse r o ≡ Ok x → o ≡ Some x
 some_there r (Some x) y e = cc
-some_there r None y e = absurd (let z : ◌≡◌ {A = ℕ} 0 1 = cc in omega arith)
+some_there r None y e = cc
 
 -- the stages
 
@@ -62,15 +54,6 @@ module _ (z : Sizes) (e : End) (q : Request) (size frames index working : ℕ) w
 
   abbrev at_place : Result (Filling × Plan) Refusal
   at_place = then (or_refuse PlaceEmpty (e.at q.place)) at_lengths
-
-  -- refused at the last stage
-  pub supply_refused : (f : Filling) (p : Plan) (r : Refusal) → Ok tt ≡ first (request_checks z e q) (tt {0}) → e.at q.place ≡ Some f → Ok tt ≡ first (length_checks z size q.piece_length) (tt {0}) → p ≡ plan_of z e q size f → Err r ≡ first (supply_checks z size p.count f.send frames index working) (tt {0}) → planned z e q size frames index working ≡ Err r
-  supply_refused f p r asked there long is refused =
-      let checks : Plan → List Check = λ p. supply_checks z size p.count f.send frames index working in
-      let reached : planned z e q size frames index working ≡ at_supply f =
-      λ i. then (sym asked i) (λ _. then (or_refuse PlaceEmpty (there i)) (λ g. then (sym long i) (λ _. at_supply g))) in
-      let spent : first (checks (plan_of z e q size f)) (tt {0}) ≡ Err r = ap (λ p. first (checks p) (tt {0})) (sym is) ∙ sym refused in
-      reached ∙ refused_alike (checks (plan_of z e q size f)) tt (f, plan_of z e q size f) r spent
 
   -- what each stage of a grant says
   pub record Passed (x : Filling × Plan) : Type 0 where
@@ -97,39 +80,18 @@ module _ (z : Sizes) (e : End) (q : Request) (size frames index working : ℕ) w
 
 -- what a grant lets the frames rely on
 
-module _ (n m size : ℕ) (h : 1 ≤ m) (s : 1 ≤ size) where
-  before_last : n * m ≡ size → (n - 1) * m < size
-  before_last e =
-      ⊎_elim
-      (λ (l : 0 < n).
-      let j : n ≡ n - 1 + 1 = omega arith in
-      let e' : (n - 1 + 1) * m ≡ size = ap (λ t. t * m) (sym j) ∙ e in
-      omega (arith, add-mul (n - 1) 1 m, one-mul m))
-      (λ (l : n ≤ 0).
-      let e' : 0 * m ≡ size = ap (λ t. t * m) (omega arith) ∙ e in
-      omega arith)
-      (cases_lt 0 n)
+-- there is a piece, and all but the last lie before the end
+pieces_reach : (size m : ℕ) → 1 ≤ m → 1 ≤ size → (1 ≤ pieces size m) × ((pieces size m - 1) * m < size)
+pieces_reach size m h s = reach (pieces size m) bounds.0 bounds.1
+  where
+    bounds : (size ≤ pieces size m * m) × (pieces size m * m < size + m)
+    bounds = div_ceil_times size m h
 
-  some_pieces : size ≤ n * m → 1 ≤ n
-  some_pieces l = ⊎_elim (λ (l : 0 < n). l) (λ (k : n ≤ 0). let e : n * m ≡ 0 * m = ap (λ t. t * m) (omega arith) in omega arith) (cases_lt 0 n)
-
--- the pieces reach the end, and all but the last lie before it
-pieces_reach : (size m : ℕ) → 1 ≤ m → 1 ≤ size → (size ≤ pieces size m * m) × ((pieces size m - 1) * m < size)
-pieces_reach size m h s =
-    let whole = div-add-mod' size m in
-    let small = mod-lt size {m = m} h in
-    ⊎_elim
-    (λ (l : 0 < size % m).
-    let n : pieces size m ≡ size / m + 1 = omega arith in
-    let k : pieces size m - 1 ≡ size / m = omega arith in
-    let p = add-mul (size / m) 1 m in
-    let o = one-mul m in
-    (subst (λ j. size ≤ j * m) (sym n) (omega arith), subst (λ j. j * m < size) (sym k) (omega arith)))
-    (λ (l : size % m ≤ 0).
-    let n : pieces size m ≡ size / m = omega arith in
-    let k : pieces size m - 1 ≡ size / m - 1 = omega arith in
-    (subst (λ j. size ≤ j * m) (sym n) (omega arith), subst (λ j. j * m < size) (sym k) (before_last (size / m) m size h s (omega arith))))
-    (cases_lt 0 (size % m))
+    reach : (n : ℕ) → size ≤ n * m → n * m < size + m → (1 ≤ n) × ((n - 1) * m < size)
+    reach n least most =
+        let some : 1 ≤ n = grind arith in
+        let whole : (n - 1 + 1) * m ≡ n * m = ap (λ j. j * m) (omega arith) in
+        (some, omega (arith, add-mul (n - 1) 1 m, one-mul m))
 
 key_id_small : (p : Place) → exists p ≡ true → key_id_of p ≤ 3
 key_id_small (Pairwise n) e = omega arith
@@ -142,7 +104,6 @@ planned_for z e s = planned z e s.request (length s.message) (length s.frames) (
 -- a send is granted: what fills its place, and what its frames can rely on
 pub record Grants (z : Sizes) (e : End) (s : Sending) (o : Outgoing) : Type 0 where
   pub fill : Filling
-  pub there : exists s.request.place ≡ true
   pub fills : e.at s.request.place ≡ Some fill
   pub is_planned : planned_for z e s ≡ Ok (fill, o.plan)
   pub is_key : o.key ≡ fill.key
@@ -153,10 +114,10 @@ outgoing_ok : (r : Result (Filling × Plan) Refusal) (o : Outgoing) → outgoing
 outgoing_ok (Ok x) o e =
     let is : record { plan = x.1; key = x.0.key } ≡ o = cc in
     (x.0, ap (λ (o : Outgoing). Ok (x.0, o.plan)) is, ap (λ (o : Outgoing). o.key) (sym is))
-outgoing_ok (Err r) o e = absurd (let z : ◌≡◌ {A = ℕ} 0 1 = cc in omega arith)
+outgoing_ok (Err r) o e = cc
 
 outgoing_err : (r : Result (Filling × Plan) Refusal) (x : Refusal) → outgoing r ≡ Err x → r ≡ Err x
-outgoing_err (Ok y) x e = absurd (let z : ◌≡◌ {A = ℕ} 0 1 = cc in omega arith)
+outgoing_err (Ok y) x e = cc
 outgoing_err (Err r) x e = cc
 
 module _ (z : Sizes) (e : End) (q : Request) (size frames index working : ℕ) (bounded : Bounded z) (numbered : e.sequence < 4096) where
@@ -174,7 +135,6 @@ module _ (z : Sizes) (e : End) (q : Request) (size frames index working : ℕ) (
       let memory = ltb-false working 2560 w.supplied.1.1.1.0 in
       let code = bounded.code_most in
       let reach = pieces_reach all m (omega arith) (omega arith) in
-      let some = some_pieces n m all (omega arith) (omega arith) reach.0 in
       let made : Ready z (plan_of z e q size f) size frames index working =
       record {
         fits = record { few = few; some = omega arith; most = piece-most; last = reach.1; id = key_id_small q.place (not-false (exists q.place) w.asked.1.0); sequence = numbered; counters = omega arith };
@@ -202,7 +162,6 @@ module _ (z z' : Sizes) (same : z ≡ z') (state : State) (s : Sending) where
       let next : next_counter (e.at q.place) ≡ o.plan.counter = ap next_counter w.there ∙ ap (λ p. p.counter) w.plan in
       record {
         fill = x.0;
-        there = not-false (exists q.place) w.asked.1.0;
         fills = w.there;
         is_planned = x.1;
         is_key = x.2;

@@ -3,7 +3,7 @@ use Rattle.std.proofs.Common.{◌≡◌, ℕ, suc, ◌+◌, ◌-◌, ◌*◌, �
 use borrow.Rule.Slice.PartMut.{put_mid}
 use Rattle.std.specs.List.{range_with_len}
 use Rattle.std.proofs.lemmas.List.FromFn.{map-range_with_len_more, length-map-range_with_len}
-use Rattle.std.proofs.lemmas.List.{append_assoc, append-nil, drop_more, length-append, length_push, set_at, take_at}
+use Rattle.std.proofs.lemmas.List.{append_assoc, append-nil, drop_more, drop_all, length-append, length-take, length_push, set_at}
 use Rattle.octets.specs.Octets.{Octets, part, written, begins}
 use Rattle.octets.proofs.Writing.{written_after, written_start, length-begins}
 use Rattle.frame.specs.Headers.{header_length, header_octets}
@@ -14,19 +14,10 @@ use Rattle.ends.specs.Sends.{header_of, piece_of, frame_of, joined, spans}
 use Rattle.sending.proofs.Cutting.{length-piece}
 use Rattle.ends.specs.Steps.{rows_begin}
 
--- what begins a memory is read back
-pub take-begun : (n : ℕ) (xs old now : Octets) → length xs ≡ n → now ≡ begins xs old → take n now ≡ xs
-take-begun n xs old now long is = ap (take n) is ∙ take_at xs (drop (length xs) old) n long
-
 -- frame i from its header and its piece
 module _ (M : Meaning) (p : Plan) (key octets : Octets) (i : ℕ) (header piece : Octets) (is-header : header ≡ header_octets (header_of p i)) (is-piece : piece ≡ piece_of p octets i) (long : length header ≡ header_length) where
   is_frame : header ++ M.seal key header p.key_id (p.counter + i) piece ≡ frame_of M p key octets i
   is_frame = λ j. is-header j ++ M.seal key (is-header j) p.key_id (p.counter + i) (is-piece j)
-
-  pub frame_length : length (M.seal key header p.key_id (p.counter + i) piece) ≡ M.sizes.head + length piece + M.sizes.tail → length (frame_of M p key octets i) ≡ header_length + M.sizes.head + length piece + M.sizes.tail
-  frame_length size =
-      let body = M.seal key header p.key_id (p.counter + i) piece in
-      sym (ap length is_frame) ∙ length-append header body ∙ omega arith
 
   -- its header first, and then the sealed piece behind it
   pub frame_laid : (old one rest : Octets) → one ≡ written 0 header old → rest ≡ begins (M.seal key header p.key_id (p.counter + i) piece) (take (length one - header_length) (drop header_length one)) → put_mid header_length (length one - header_length) one rest ≡ begins (frame_of M p key octets i) old
@@ -60,6 +51,15 @@ begins-set xs old y i long inside =
     ∙ set_at xs (get_or old (length xs) y) (drop (length xs + 1) old) y i long
     ∙ sym (append_assoc xs (y ∷ []) (drop (length xs + 1) old))
     ∙ ap (λ n. (xs ++ (y ∷ [])) ++ drop n old) (sym (length_push xs y))
+
+-- a row for each of n frames, and what is left alone behind them
+pub rows_whole : (f : ℕ → Octets) (i n : ℕ) (old rows : List Span) → i ≡ n → n ≤ length old → rows ≡ rows_begin (spans 0 (map f (range_with_len 0 i))) (take n old) → rows ++ drop n old ≡ rows_begin (spans 0 (map f (range_with_len 0 n))) old
+rows_whole f i n old rows all enough is =
+    let xs = spans 0 (map f (range_with_len 0 n)) in
+    let long : length xs ≡ n = length-spans 0 (map f (range_with_len 0 n)) ∙ length-map-range_with_len f 0 n in
+    let none : drop (length xs) (take n old) ≡ [] = drop_all (length xs) (take n old) (omega (arith, length-take n old)) in
+    let whole : rows ≡ xs = is ∙ ap (λ j. rows_begin (spans 0 (map f (range_with_len 0 j))) (take n old)) all ∙ ap (λ t. xs ++ t) none ∙ append-nil xs in
+    ap (λ t. t ++ drop n old) whole ∙ ap (λ k. xs ++ drop k old) (sym long)
 
 -- what is laid before turn i: the first i of the frames that f numbers. What they take is known without looking into
 -- them, from what each has beside its piece (k) and from the length of the pieces (m).

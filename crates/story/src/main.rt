@@ -2,13 +2,15 @@
 #![tactic(auto)]
 
 mod newer;
+mod opening;
 mod sealing;
 mod telling;
 
 use frame::{Address, Header};
 use newer::newer_story;
 use sealing::sealing_story;
-use telling::{tell_header, tell_octets, tell_read};
+use shown::Hex;
+use telling::{tell_header, tell_read};
 
 const BASE: Address = Address {
     octets: [0x02, 0x10, 0x20, 0x30, 0x40, 0x50],
@@ -39,8 +41,7 @@ fn header_story(rt: &HostRuntime) -> anyhow::Result<()> {
     )?;
     tell_header(rt, &WHOLE_MESSAGE)?;
     let octets = WHOLE_MESSAGE.octets();
-    print!(rt; "In the air that is 24 octets:\n ")?;
-    tell_octets(rt, &octets)?;
+    println!(rt; "In the air that is 24 octets:\n {}", Hex(&octets))?;
     println!(rt; "The base reads them:")?;
     tell_read(rt, &octets)?;
     println!(rt; "Cut short by one octet, it reads:")?;

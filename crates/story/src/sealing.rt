@@ -1,14 +1,22 @@
 // A reading sealed by a logger and opened by its base, under TKIP.
-use crate::telling::tell_octets;
+use crate::opening::{Receiver, tell_opened};
 use crate::{BASE, LOGGER};
+use frame::Heading;
 use octets::{put, same};
-use suite::{Direction, HeadFault, OpenFault, Suite};
+use shown::{Hex, Text};
+use suite::{Direction, HeadFault, OpenFault, PieceFault, Suite};
 use tkip::Tkip;
 
 pub const READING: &[u8; 18] = b"spring 12: 4.7 l/s";
 
 // Temporal key, code key from the base, code key from the logger.
 const KEY: &[u8; 32] = b"temporal key 16.fr.base.fr.loggr";
+
+const HEADING: Heading = Heading {
+    destination: BASE,
+    source: LOGGER,
+    priority: 0,
+};
 
 // The body of the reading's frame, with counter 1: head, the reading and its code under RC4, tail.
 fn sealed_reading(header: &[u8; 24]) -> [u8; 38] {
@@ -17,9 +25,7 @@ fn sealed_reading(header: &[u8; 24]) -> [u8; 38] {
     Tkip.code(
         KEY,
         Direction::FromLogger,
-        &BASE,
-        &LOGGER,
-        0,
+        &HEADING,
         READING,
         &mut piece[18..],
     );
@@ -36,47 +42,40 @@ fn tell_message(rt: &HostRuntime, whole: &[u8]) -> anyhow::Result<()> {
     }
     let (message, given) = whole.split_at(whole.len() - 8);
     let mut code = [0u8; 8];
-    Tkip.code(
-        KEY,
-        Direction::FromLogger,
-        &BASE,
-        &LOGGER,
-        0,
-        message,
-        &mut code,
-    );
-    if !same(&code, given) {
+    Tkip.code(KEY, Direction::FromLogger, &HEADING, message, &mut code);
+    if same(&code, given) {
+        println!(rt;
+            "  the code agrees, and the reading is: {}",
+            Text(message)
+        )?;
+    } else {
         println!(rt; "  the code does not agree")?;
-        return Ok(());
     }
-    tell_text(rt, "the code agrees", message)
-}
-
-// A reading, with why it is believed.
-pub fn tell_text(rt: &HostRuntime, why: &str, message: &[u8]) -> anyhow::Result<()> {
-    print!(rt; "  {why}, and the reading is: ")?;
-    for octet in message {
-        print!(rt; "{}", *octet as char)?;
-    }
-    println!(rt; "")?;
     Ok(())
 }
 
-fn tell_opened(rt: &HostRuntime, header: &[u8; 24], body: &[u8; 38]) -> anyhow::Result<()> {
-    let (counter, key_id) = match Tkip.head(body) {
-        Ok(read) => read,
-        Err(HeadFault::Short) => return Ok(println!(rt; "  too short for a body")?),
-        Err(HeadFault::Unmarked) => return Ok(println!(rt; "  not marked as a sealed body")?),
-    };
-    println!(rt; "  its head says counter {counter}, key ID {key_id}")?;
-    let mut piece = [0u8; 26];
-    match Tkip.open(KEY, header, body, &mut piece) {
-        Ok(size) => tell_message(rt, &piece[0..size]),
-        Err(OpenFault::Long) => Ok(println!(rt; "  too long for a body")?),
-        Err(OpenFault::Unequal) => Ok(println!(rt;
-            "  refused: no piece sealed under this key gives these octets"
-        )?),
+fn words(fault: PieceFault) -> &'static str {
+    match fault {
+        PieceFault::Head(HeadFault::Short) => "too short for a body",
+        PieceFault::Head(HeadFault::Unmarked) => "not marked as a sealed body",
+        PieceFault::Open(OpenFault::Long) => "too long for a body",
+        PieceFault::Open(OpenFault::Unequal) => {
+            "refused: no piece sealed under this key gives these octets"
+        }
     }
+}
+
+fn tell_reading(rt: &HostRuntime, header: &[u8; 24], body: &[u8; 38]) -> anyhow::Result<()> {
+    let mut piece = [0u8; 26];
+    let receiver = Receiver {
+        suite: &Tkip,
+        key: KEY,
+        header,
+    };
+    if let Some(size) = tell_opened(rt, receiver, body, &mut piece, words)? {
+        tell_message(rt, &piece[0..size.min(26)])?;
+    }
+    Ok(())
 }
 
 pub fn sealing_story(rt: &HostRuntime, header: &[u8; 24]) -> anyhow::Result<()> {
@@ -84,12 +83,11 @@ pub fn sealing_story(rt: &HostRuntime, header: &[u8; 24]) -> anyhow::Result<()> 
         "The logger puts the code of its reading behind it and seals both with TKIP:\n  head, reading and code under RC4, tail:"
     )?;
     let body = sealed_reading(header);
-    print!(rt; " ")?;
-    tell_octets(rt, &body)?;
+    println!(rt; " {}", Hex(&body))?;
     println!(rt; "The base opens it:")?;
-    tell_opened(rt, header, &body)?;
+    tell_reading(rt, header, &body)?;
     let mut forged = body;
     forged[20] ^= 1;
     println!(rt; "With one bit changed on the way:")?;
-    tell_opened(rt, header, &forged)
+    tell_reading(rt, header, &forged)
 }

@@ -28,6 +28,7 @@ pub enum PieceFault {
     Open(OpenFault),
 }
 
+// Kept: a derived `From` has no contract, and clauses name the fault that `?` makes (`from_gives`).
 impl From<HeadFault> for PieceFault {
     ghost from_gives = { λ e r. r ≡ Head e };
 

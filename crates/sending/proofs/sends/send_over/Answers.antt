@@ -25,11 +25,11 @@ carry_out-requires g c =
     let s = sending c.args.request.now c.args.message.now c.args.frames.now c.args.index.now c.args.working.now in
     record { ready = (granted c.sizes.result g.S.Suite.means.sizes c.sizes.ensures c.args.state.now s c.in_ok-outgoing.outgoing g.met.S.Suite.keeps.bounded c.in_ok-outgoing.ensures).ready }
 
-pub note_sent-requires : goal.note_sent-requires
-note_sent-requires g c =
+pub note_sent-requires-clause-few : goal.note_sent-requires-clause-few
+note_sent-requires-clause-few g c =
     let s = sending c.args.request.now c.args.message.now c.args.frames.now c.args.index.now c.args.working.now in
     let w = granted c.sizes.result g.S.Suite.means.sizes c.sizes.ensures c.args.state.now s c.in_ok-outgoing.outgoing g.met.S.Suite.keeps.bounded c.in_ok-outgoing.ensures in
-    record { there = w.there; few = omega (arith, w.counters, g.met.S.Suite.keeps.bounded.top_most) }
+    omega (arith, w.counters, g.met.S.Suite.keeps.bounded.top_most)
 
 pub returns : goal.returns
 returns g c =
