@@ -1,4 +1,3 @@
-pub mod Joins
 pub mod Opened
 pub mod Verdicts
 pub mod Finishing

@@ -9,7 +9,7 @@ ghost use Rattle.ends.specs.Steps.{IsStep, memories_of_arrival};
 ghost use Rattle.link.specs.Whole.{held_by, SameSuites};
 
 use crate::link_ends::LinkEnd;
-use admission::admit;
+use admission::{Lengths, admit};
 use arriving::{Admitted, arrive_over};
 use ends::{Arrived, CodedSuites, Refusal};
 use octets::Wipe;
@@ -40,20 +40,18 @@ impl<P: Suite, G: Suite> LinkEnd<P, G> {
     {
         let guard = Wipe { octets: working };
         let coded = coded_suites::<P, G>();
-        let header = admit(
-            &self.state,
-            coded,
-            frame,
-            time,
-            guard.octets.len(),
-            message.len(),
-        )?;
+        let lengths = Lengths {
+            working: guard.octets.len(),
+            message: message.len(),
+        };
+        let header = admit(&self.state, coded, frame, time, lengths)?;
         let admitted = Admitted {
             coded,
             header: &header,
             frame,
             time,
         };
+        // Kept: no plainer: the suites are of two types, and each has its call of the one generic function.
         if header.address1.is_group() {
             arrive_over(
                 &self.group_suite,
