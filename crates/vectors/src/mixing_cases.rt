@@ -2,7 +2,7 @@
 ghost use Rattle.std.specs.Prelude.{◌≡◌, ◌/◌, ◌^◌, T};
 ghost use Rattle.mixing.specs.Mixing.{phase1, rc4_key};
 
-use crate::verdict;
+use crate::tell;
 use frame::Address;
 use mixing::Phase1;
 use std::io;
@@ -117,7 +117,7 @@ fn right(case: &Case) -> bool
 
 pub fn run(rt: &HostRuntime) -> io::Result<()> {
     for case in &CASES {
-        println!(rt; "{}: {}", case.name, verdict(right(case)))?;
+        tell(rt, case.name, right(case))?;
     }
     Ok(())
 }
