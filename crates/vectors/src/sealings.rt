@@ -6,7 +6,6 @@ use std::alloc::{AllocError, Global};
 use suite::{HeadFault, OpenFault, Suite};
 
 // A piece, and the body that a suite seals it in under a key, a header and a counter, with the key ID 0.
-#[derive(Clone, Copy)]
 pub struct Sealing<S: Suite> {
     pub suite: S,
     pub key: &'static [u8],
@@ -14,17 +13,16 @@ pub struct Sealing<S: Suite> {
     pub counter: u64,
     pub piece: &'static [u8],
     pub body: &'static [u8],
+    ghost key_fits: { length key.now ≡ S.Suite.means.sizes.key },
+    ghost counter_fits: { counter ≤ S.Suite.means.sizes.top },
+    ghost some: { 1 ≤ length piece.now },
+    ghost most: { length piece.now ≤ longest_piece },
+    ghost body_fits: { length body.now ≡ S.Suite.means.sizes.head + length piece.now + S.Suite.means.sizes.tail },
 }
 
 impl<S: Suite> Sealing<S> {
     // Whether the piece is sealed as published.
-    pub fn seals(&self, alloc: Global) -> Result<bool, AllocError>
-        requires key { length self.now.key.now ≡ S.Suite.means.sizes.key }
-        requires counter { self.now.counter ≤ S.Suite.means.sizes.top }
-        requires some { 1 ≤ length self.now.piece.now }
-        requires most { length self.now.piece.now ≤ longest_piece }
-        requires body { length self.now.body.now ≡ S.Suite.means.sizes.head + length self.now.piece.now + S.Suite.means.sizes.tail }
-    {
+    pub fn seals(&self, alloc: Global) -> Result<bool, AllocError> {
         let header = self.header;
         let mut body = vec![in alloc; 0u8; self.body.len()]?;
         self.suite
@@ -38,8 +36,7 @@ impl<S: Suite> Sealing<S> {
         body: &[u8],
         piece: &mut [u8],
     ) -> Result<((u64, u8), Result<usize, OpenFault>), HeadFault>
-        requires key { length self.now.key.now ≡ S.Suite.means.sizes.key }
-        requires room { length body.now ≤ S.Suite.means.sizes.head + length piece.old + S.Suite.means.sizes.tail }
+        requires { length body.now ≤ S.Suite.means.sizes.head + length piece.old + S.Suite.means.sizes.tail }
     {
         let header = self.header;
         let head = self.suite.head(body)?;
@@ -47,10 +44,7 @@ impl<S: Suite> Sealing<S> {
     }
 
     // Whether the body opens to the piece.
-    pub fn opens(&self, alloc: Global) -> Result<bool, AllocError>
-        requires key { length self.now.key.now ≡ S.Suite.means.sizes.key }
-        requires body { length self.now.body.now ≡ S.Suite.means.sizes.head + length self.now.piece.now + S.Suite.means.sizes.tail }
-    {
+    pub fn opens(&self, alloc: Global) -> Result<bool, AllocError> {
         let size = self.piece.len();
         let mut piece = vec![in alloc; 0u8; size]?;
         let opened = self.open(self.body, &mut piece);
@@ -59,9 +53,7 @@ impl<S: Suite> Sealing<S> {
 
     // Whether the body is refused with these bits of one octet changed, and nothing let out.
     pub fn refuses(&self, alloc: Global, place: usize, bits: u8) -> Result<bool, AllocError>
-        requires key { length self.now.key.now ≡ S.Suite.means.sizes.key }
-        requires place { place < length self.now.body.now }
-        requires body { length self.now.body.now ≡ S.Suite.means.sizes.head + length self.now.piece.now + S.Suite.means.sizes.tail }
+        requires { place < length self.now.body.now }
     {
         let mut body = Vec::from_slice(alloc, self.body)?;
         body[place] ^= bits;
