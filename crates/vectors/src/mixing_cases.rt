@@ -105,12 +105,11 @@ fn right(case: &Case) -> bool
     ensures words { T result → phase1 case.now.key.now case.now.transmitter (case.now.counter / 2 ^ 16) ≡ case.now.words }
     ensures seed { T result → rc4_key case.now.key.now case.now.transmitter case.now.counter ≡ case.now.seed.now }
 {
-    let upper = case.counter / 65536;
-    if upper > 0xffff_ffff {
+    let Ok(upper) = u32::try_from(case.counter / 65536) else {
         return false;
-    }
+    };
     let key = case.key;
-    let phase1 = Phase1::mix(key, &case.transmitter, upper as u32);
+    let phase1 = Phase1::mix(key, &case.transmitter, upper);
     let seed = mixing::rc4_key(key, &case.transmitter, case.counter);
     phase1.words == case.words && seed == *case.seed
 }
