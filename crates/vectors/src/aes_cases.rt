@@ -1,5 +1,5 @@
 // The examples of FIPS 197 for AES-128. A block and a key are written as published, the first octet leftmost.
-use crate::verdict;
+use crate::tell;
 use aes::{Aes128, encrypt_once, load, store};
 use std::io;
 
@@ -74,10 +74,10 @@ fn expands(case: RoundKey) -> bool {
 
 pub fn run(rt: &HostRuntime) -> io::Result<()> {
     for case in ENCRYPTIONS {
-        println!(rt; "{}: {}", case.name, verdict(encrypts(case)))?;
+        tell(rt, case.name, encrypts(case))?;
     }
     for case in ROUND_KEYS {
-        println!(rt; "{}: {}", case.name, verdict(expands(case)))?;
+        tell(rt, case.name, expands(case))?;
     }
     Ok(())
 }

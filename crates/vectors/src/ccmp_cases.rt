@@ -1,16 +1,14 @@
 // The published CCMP frame, and CCM's own packet vectors with a tail of eight octets.
-use crate::verdict;
+use crate::sealings::Sealing;
+use crate::tell;
 use ccmp::Ccmp;
-use octets::same;
+use std::alloc::{AllocError, Global};
 use std::io;
-use suite::{OpenFault, Suite};
 
 const KEY: &[u8; 16] = b"\xc9\x7c\x1f\x67\xce\x37\x11\x85\x51\x4a\x8a\x19\xf2\xbd\xd5\x2f";
 
 const HEADER: &[u8; 24] =
     b"\x08\x48\xc3\x2c\x0f\xd2\xe1\x28\xa5\x7c\x50\x30\xf1\x84\x44\x08\xab\xae\xa5\xb8\xfc\xba\x80\x33";
-
-const COUNTER: u64 = 0xb503_9776_e70c;
 
 const PIECE: &[u8; 20] =
     b"\xf8\xba\x1a\x55\xd0\x2f\x85\xae\x96\x7b\xb6\x2f\xb6\xcd\xa8\xeb\x7e\x78\xa0\x50";
@@ -18,36 +16,14 @@ const PIECE: &[u8; 20] =
 const BODY: &[u8; 36] =
     b"\x0c\xe7\x00\x20\x76\x97\x03\xb5\xf3\xd0\xa2\xfe\x9a\x3d\xbf\x23\x42\xa6\x43\xe4\x32\x46\xe8\x0c\x3c\x04\xd0\x19\x78\x45\xce\x0b\x16\xf9\x76\x23";
 
-fn seals() -> bool {
-    let mut body = [0u8; 36];
-    Ccmp.seal(KEY, HEADER, 0, COUNTER, PIECE, &mut body);
-    same(&body, BODY)
-}
-
-fn opens() -> bool {
-    let mut piece = [0u8; 20];
-    match Ccmp.head(BODY) {
-        Ok((COUNTER, 0)) => match Ccmp.open(KEY, HEADER, BODY, &mut piece) {
-            Ok(size) => size == 20 && same(&piece, PIECE),
-            Err(_) => false,
-        },
-        _ => false,
-    }
-}
-
-// The last bit of the tail changed: nothing is let out.
-fn refuses() -> bool {
-    let mut body = *BODY;
-    body[35] ^= 0x80;
-    let mut piece = [0xee; 20];
-    match Ccmp.head(&body) {
-        Ok((COUNTER, 0)) => match Ccmp.open(KEY, HEADER, &body, &mut piece) {
-            Err(OpenFault::Unequal) => same(&piece, &[0; 20]),
-            _ => false,
-        },
-        _ => false,
-    }
-}
+const FRAME: Sealing<Ccmp> = Sealing {
+    suite: Ccmp,
+    key: KEY,
+    header: HEADER,
+    counter: 0xb503_9776_e70c,
+    piece: PIECE,
+    body: BODY,
+};
 
 // A nonce, additional data, a message, and what CCM makes of them under one key.
 struct Packet {
@@ -105,35 +81,32 @@ const PACKETS: [Packet; 6] = [
     },
 ];
 
-const ROOM: usize = 64;
-
 // Sealed as published, and opened again.
-fn seals_packet(packet: &Packet) -> bool {
+fn seals_packet(packet: &Packet, alloc: Global) -> Result<bool, AllocError> {
     let nonce = packet.nonce;
     let additional = packet.additional;
     let message = packet.message;
     let sealed = packet.sealed;
     let size = message.len();
-    if additional.len() > 30 || size + 8 > ROOM || sealed.len() != size + 8 {
-        return false;
+    if additional.len() > 30 || size >= 65536 || sealed.len() != size + 8 {
+        return Ok(false);
     }
-    let mut made = [0u8; ROOM];
+    let mut made = vec![in alloc; 0u8; size + 8]?;
     ccm::seal(PACKET_KEY, nonce, additional, message, &mut made);
-    let mut opened = [0u8; ROOM];
-    ccm::open(PACKET_KEY, nonce, additional, sealed, &mut opened)
-        && same(&made[0..size + 8], sealed)
-        && same(&opened[0..size], message)
+    let mut opened = vec![in alloc; 0u8; size]?;
+    let is_open = ccm::open(PACKET_KEY, nonce, additional, sealed, &mut opened);
+    Ok(is_open && made.as_slice() == sealed && opened.as_slice() == message)
 }
 
 pub fn run(rt: &HostRuntime) -> io::Result<()> {
-    println!(rt; "CCMP frame sealed: {}", verdict(seals()))?;
-    println!(rt; "CCMP frame opened: {}", verdict(opens()))?;
-    println!(rt;
-        "CCMP frame with a changed bit refused: {}",
-        verdict(refuses())
-    )?;
+    let alloc = rt.alloc();
+    tell(rt, "CCMP frame sealed", FRAME.seals(alloc)?)?;
+    tell(rt, "CCMP frame opened", FRAME.opens(alloc)?)?;
+    // the last bit of the tail
+    let refused = FRAME.refuses(alloc, 35, 0x80)?;
+    tell(rt, "CCMP frame with a changed bit refused", refused)?;
     for packet in &PACKETS {
-        println!(rt; "{}: {}", packet.name, verdict(seals_packet(packet)))?;
+        tell(rt, packet.name, seals_packet(packet, alloc)?)?;
     }
     Ok(())
 }

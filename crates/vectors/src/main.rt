@@ -5,13 +5,16 @@ mod aes_cases;
 mod ccmp_cases;
 mod michael_cases;
 mod mixing_cases;
+mod sealings;
 mod stream_cases;
 mod tkip_cases;
 
-use std::io;
+use std::{fmt, io};
 
-fn verdict(right: bool) -> &'static str {
-    if right { "ok" } else { "WRONG" }
+// A line for a case: its name, and whether it came out as published.
+fn tell<N: fmt::Display + Drop>(rt: &HostRuntime, name: N, right: bool) -> io::Result<()> {
+    let verdict = if right { "ok" } else { "WRONG" };
+    println!(rt; "{name}: {verdict}")
 }
 
 fn main(rt: HostRuntime) -> io::Result<()> {

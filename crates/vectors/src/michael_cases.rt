@@ -2,9 +2,9 @@
 ghost use Rattle.std.specs.Prelude.{◌≡◌};
 ghost use Rattle.vectors.specs.Repeating.{repeated};
 
-use crate::verdict;
+use crate::tell;
 use michael::{State, bare_code};
-use std::io;
+use std::{fmt, io};
 
 // The block function applied some times over.
 struct BlockVector {
@@ -19,6 +19,18 @@ struct CodeVector {
     key: u64,
     text: &'static str,
     code: u64,
+}
+
+impl fmt::Display for BlockVector {
+    fn fmt<W: fmt::Write>(&self, f: &mut fmt::Formatter<W>) -> fmt::Result {
+        write!(f, "Michael block function, {}", self.name)
+    }
+}
+
+impl fmt::Display for CodeVector {
+    fn fmt<W: fmt::Write>(&self, f: &mut fmt::Formatter<W>) -> fmt::Result {
+        write!(f, "Michael code of \"{}\"", self.text)
+    }
 }
 
 const BLOCKS: [BlockVector; 5] = [
@@ -115,15 +127,11 @@ fn repeated(from: State, times: u32) -> State
 pub fn run(rt: &HostRuntime) -> io::Result<()> {
     for v in &BLOCKS {
         let to = repeated(v.from, v.times);
-        let name = v.name;
-        let verdict = verdict(to.left == v.to.left && to.right == v.to.right);
-        println!(rt; "Michael block function, {name}: {verdict}")?;
+        tell(rt, v, to.left == v.to.left && to.right == v.to.right)?;
     }
     for v in &CODES {
         let code = bare_code(&v.key.to_be_bytes(), v.text.as_bytes());
-        let text = v.text;
-        let verdict = verdict(code == v.code.to_be_bytes());
-        println!(rt; "Michael code of \"{text}\": {verdict}")?;
+        tell(rt, v, code == v.code.to_be_bytes())?;
     }
     Ok(())
 }

@@ -2,7 +2,7 @@
 ghost use Rattle.std.specs.Prelude.{◌≡◌, ◌/◌, ◌^◌, T};
 ghost use Rattle.mixing.specs.Mixing.{phase1, rc4_key};
 
-use crate::verdict;
+use crate::tell;
 use frame::Address;
 use mixing::Phase1;
 use std::io;
@@ -105,19 +105,18 @@ fn right(case: &Case) -> bool
     ensures words { T result → phase1 case.now.key.now case.now.transmitter (case.now.counter / 2 ^ 16) ≡ case.now.words }
     ensures seed { T result → rc4_key case.now.key.now case.now.transmitter case.now.counter ≡ case.now.seed.now }
 {
-    let upper = case.counter / 65536;
-    if upper > 0xffff_ffff {
+    let Ok(upper) = u32::try_from(case.counter / 65536) else {
         return false;
-    }
+    };
     let key = case.key;
-    let phase1 = Phase1::mix(key, &case.transmitter, upper as u32);
+    let phase1 = Phase1::mix(key, &case.transmitter, upper);
     let seed = mixing::rc4_key(key, &case.transmitter, case.counter);
     phase1.words == case.words && seed == *case.seed
 }
 
 pub fn run(rt: &HostRuntime) -> io::Result<()> {
     for case in &CASES {
-        println!(rt; "{}: {}", case.name, verdict(right(case)))?;
+        tell(rt, case.name, right(case))?;
     }
     Ok(())
 }

@@ -1,9 +1,10 @@
 // Known answers of CRC-32 and RC4.
-ghost use Rattle.std.specs.Prelude.{◌≡◌, T};
+ghost use Rattle.std.specs.Prelude.{◌≡◌, T, IfOk};
 ghost use Rattle.crc32.specs.Crc32.{crc32};
 ghost use Rattle.rc4.specs.Rc4.{covered};
 
-use crate::verdict;
+use crate::tell;
+use std::alloc::{AllocError, Global};
 use std::io;
 
 // Octets, and their CRC-32.
@@ -55,8 +56,6 @@ const COVERS: [Cover; 3] = [
     },
 ];
 
-const ROOM: usize = 64;
-
 // Right only where the definition gives the sum.
 fn checks(check: &Check) -> bool
     ensures { T result → crc32 check.now.octets.now ≡ check.now.sum }
@@ -66,26 +65,23 @@ fn checks(check: &Check) -> bool
 }
 
 // Right only where the definition gives the cipher text.
-fn covers(cover: &Cover) -> bool
-    ensures { T result → covered cover.now.key.now cover.now.plain.now ≡ cover.now.cipher.now }
+fn covers(cover: &Cover, alloc: Global) -> Result<bool, AllocError>
+    ensures { IfOk result (λ right. T right → covered cover.now.key.now cover.now.plain.now ≡ cover.now.cipher.now) }
 {
-    let size = cover.plain.len();
-    if size > ROOM || cover.key.is_empty() || cover.key.len() > 256 {
-        return false;
+    if cover.key.is_empty() || cover.key.len() > 256 {
+        return Ok(false);
     }
-    let mut room = [0u8; ROOM];
-    let part = &mut room[0..size];
-    part.copy_from_slice(cover.plain);
-    rc4::cover(cover.key, part);
-    &*part == cover.cipher
+    let mut octets = Vec::from_slice(alloc, cover.plain)?;
+    rc4::cover(cover.key, &mut octets);
+    Ok(octets.as_slice() == cover.cipher)
 }
 
 pub fn run(rt: &HostRuntime) -> io::Result<()> {
     for check in &CHECKS {
-        println!(rt; "{}: {}", check.name, verdict(checks(check)))?;
+        tell(rt, check.name, checks(check))?;
     }
     for cover in &COVERS {
-        println!(rt; "{}: {}", cover.name, verdict(covers(cover)))?;
+        tell(rt, cover.name, covers(cover, rt.alloc())?)?;
     }
     Ok(())
 }

@@ -1,9 +1,10 @@
 // The published TKIP frame: sealed, opened, its code reckoned, and refused where one bit is changed.
-use crate::verdict;
+use crate::sealings::Sealing;
+use crate::tell;
 use frame::Address;
 use octets::same;
 use std::io;
-use suite::{Direction, OpenFault, Suite};
+use suite::{Direction, Suite};
 use tkip::Tkip;
 
 const KEY: &[u8; 32] =
@@ -19,22 +20,14 @@ const PIECE: &[u8; 100] =
 const BODY: &[u8; 112] =
     b"\x00\x20\x01\x20\x00\x00\x00\x00\xc0\x0e\x14\xfc\xe7\xcf\xab\xc7\x75\x47\xe6\x66\xe5\x7c\x0d\xac\x70\x4a\x1e\x35\x8a\x88\xc1\x1c\x8e\x2e\x28\x2e\x38\x01\x02\x7a\x46\x56\x05\x5e\xe9\x3e\x9c\x25\x47\x02\xe9\x73\x58\x05\xdd\xb5\x76\x9b\xa7\x3f\x1e\xbb\x56\xe8\x44\xef\x91\x22\x85\xd3\xdd\x6e\x54\x1e\x82\x38\x73\x55\x8a\xdb\xa0\x79\x06\x8a\xbd\x7f\x7f\x50\x95\x96\x75\xac\xc4\xb4\xde\x9a\xa9\x9c\x05\xf2\x89\xa7\xc5\x2f\xee\x5b\xfc\x14\xf6\xf8\xe5\xf8";
 
-fn seals() -> bool {
-    let mut body = [0u8; 112];
-    Tkip.seal(KEY, HEADER, 0, 1, PIECE, &mut body);
-    same(&body, BODY)
-}
-
-fn opens() -> bool {
-    let mut piece = [0u8; 100];
-    match Tkip.head(BODY) {
-        Ok((1, 0)) => match Tkip.open(KEY, HEADER, BODY, &mut piece) {
-            Ok(size) => size == 100 && same(&piece, PIECE),
-            Err(_) => false,
-        },
-        _ => false,
-    }
-}
+const FRAME: Sealing<Tkip> = Sealing {
+    suite: Tkip,
+    key: KEY,
+    header: HEADER,
+    counter: 1,
+    piece: PIECE,
+    body: BODY,
+};
 
 // The message goes from the base, whose address stands last, to a station.
 fn codes() -> bool {
@@ -54,26 +47,12 @@ fn codes() -> bool {
     same(&code, given)
 }
 
-// One bit of the sealed piece changed: nothing is let out.
-fn refuses() -> bool {
-    let mut body = *BODY;
-    body[50] ^= 4;
-    let mut piece = [0xee; 100];
-    match Tkip.head(&body) {
-        Ok((1, 0)) => match Tkip.open(KEY, HEADER, &body, &mut piece) {
-            Err(OpenFault::Unequal) => same(&piece, &[0; 100]),
-            _ => false,
-        },
-        _ => false,
-    }
-}
-
 pub fn run(rt: &HostRuntime) -> io::Result<()> {
-    println!(rt; "TKIP frame sealed: {}", verdict(seals()))?;
-    println!(rt; "TKIP frame opened: {}", verdict(opens()))?;
-    println!(rt; "TKIP frame's code: {}", verdict(codes()))?;
-    println!(rt;
-        "TKIP frame with a changed bit refused: {}",
-        verdict(refuses())
-    )
+    let alloc = rt.alloc();
+    tell(rt, "TKIP frame sealed", FRAME.seals(alloc)?)?;
+    tell(rt, "TKIP frame opened", FRAME.opens(alloc)?)?;
+    tell(rt, "TKIP frame's code", codes())?;
+    // one bit of the sealed piece
+    let refused = FRAME.refuses(alloc, 50, 4)?;
+    tell(rt, "TKIP frame with a changed bit refused", refused)
 }
