@@ -36,7 +36,8 @@ pub fn load(block: &[u8]) -> u128
     requires { length block.now ≡ 16 }
     ensures { octets result ≡ block.now }
 {
-    u128::from_le_bytes(array_at(block, 0))
+    let octets = array_at::<16>(block, 0);
+    u128::from_le_bytes(octets)
 }
 
 // The sixteen octets of a block.
