@@ -1,7 +1,6 @@
 -- The octets of words.
-use Rattle.std.proofs.Common.{◌≡◌, ℕ, zero, suc, ◌+◌, ◌*◌, ◌/◌, ◌%◌, ◌^◌, ◌<◌, List, [], ◌∷◌, ◌++◌, length, get_or, sym, refl, ap, ◌∙◌, arith}
-use Rattle.std.specs.Int.{w32, w128, to_le_bytes, from_le_bytes}
-use Rattle.std.proofs.Math.Nat.{div-div-eq-div-mul}
+use Rattle.std.proofs.Common.{◌≡◌, ℕ, zero, suc, ◌+◌, ◌*◌, ◌/◌, ◌%◌, ◌^◌, ◌<◌, List, [], ◌∷◌, ◌++◌, length, get_or, set, replicate, sym, refl, ap, ◌∙◌, arith}
+use Rattle.std.specs.Int.{w32, w128, from_le_bytes}
 use Rattle.std.proofs.lemmas.Nat.{le_bytes_4}
 use Rattle.octets.proofs.Writing.{spelled}
 use lib.Bits.{bit_xor, xor_shr, xor_mod}
@@ -43,63 +42,6 @@ quad-octet x h =
     let s : x / 16777216 % 256 ≡ 0 = omega arith in
     λ i. p i ∷ q i ∷ r i ∷ s i ∷ []
 
--- an octet moved up to its row
-pub quad-seat : (row v : ℕ) → row < 4 → v < 256 → quad ((v * 2 ^ (8 * row)) % 4294967296) ≡ seat row v
-unfolding seat
-quad-seat zero v h p =
-    let e : (v * 1) % 4294967296 ≡ v = omega arith in
-    ap quad e ∙ quad-octet v p
-quad-seat (suc zero) v h p =
-    let e : (v * 256) % 4294967296 ≡ v * 256 = omega arith in
-    let a : v * 256 % 256 ≡ 0 = omega arith in
-    let b' : v * 256 / 256 ≡ v * 1 = omega arith in
-    let b : v * 256 / 256 % 256 ≡ v = ap (λ x. x % 256) b' ∙ omega arith in
-    let c' : v * 256 / 65536 ≡ 0 = omega arith in
-    let c : v * 256 / 65536 % 256 ≡ 0 = ap (λ x. x % 256) c' ∙ omega arith in
-    let d' : v * 256 / 16777216 ≡ 0 = omega arith in
-    let d : v * 256 / 16777216 % 256 ≡ 0 = ap (λ x. x % 256) d' ∙ omega arith in
-    ap quad e ∙ (λ i. a i ∷ b i ∷ c i ∷ d i ∷ [])
-quad-seat (suc (suc zero)) v h p =
-    let e : (v * 65536) % 4294967296 ≡ v * 65536 = omega arith in
-    let a : v * 65536 % 256 ≡ 0 = omega arith in
-    let b' : v * 65536 / 256 ≡ v * 256 = omega arith in
-    let b : v * 65536 / 256 % 256 ≡ 0 = ap (λ x. x % 256) b' ∙ omega arith in
-    let c' : v * 65536 / 65536 ≡ v * 1 = omega arith in
-    let c : v * 65536 / 65536 % 256 ≡ v = ap (λ x. x % 256) c' ∙ omega arith in
-    let d' : v * 65536 / 16777216 ≡ 0 = omega arith in
-    let d : v * 65536 / 16777216 % 256 ≡ 0 = ap (λ x. x % 256) d' ∙ omega arith in
-    ap quad e ∙ (λ i. a i ∷ b i ∷ c i ∷ d i ∷ [])
-quad-seat (suc (suc (suc zero))) v h p =
-    let e : (v * 16777216) % 4294967296 ≡ v * 16777216 = omega arith in
-    let a : v * 16777216 % 256 ≡ 0 = omega arith in
-    let b' : v * 16777216 / 256 ≡ v * 65536 = omega arith in
-    let b : v * 16777216 / 256 % 256 ≡ 0 = ap (λ x. x % 256) b' ∙ omega arith in
-    let c' : v * 16777216 / 65536 ≡ v * 256 = omega arith in
-    let c : v * 16777216 / 65536 % 256 ≡ 0 = ap (λ x. x % 256) c' ∙ omega arith in
-    let d' : v * 16777216 / 16777216 ≡ v * 1 = omega arith in
-    let d : v * 16777216 / 16777216 % 256 ≡ v = ap (λ x. x % 256) d' ∙ omega arith in
-    ap quad e ∙ (λ i. a i ∷ b i ∷ c i ∷ d i ∷ [])
-quad-seat (suc (suc (suc (suc row)))) v h p = absurd (omega arith)
-
--- the octets of a word of 128 bits, one by one
-quad-low : (y : ℕ) → quad (y % 4294967296) ≡ quad y
-quad-low y =
-    let p : y % 4294967296 % 256 ≡ y % 256 = omega arith in
-    let q : y % 4294967296 / 256 % 256 ≡ y / 256 % 256 = omega arith in
-    let r : y % 4294967296 / 65536 % 256 ≡ y / 65536 % 256 = omega arith in
-    let s : y % 4294967296 / 16777216 % 256 ≡ y / 16777216 % 256 = omega arith in
-    λ i. p i ∷ q i ∷ r i ∷ s i ∷ []
-
-pub octets-bytes : (x : ℕ) → octets x ≡ to_le_bytes w128 x
-unfolding octets
-octets-bytes x =
-    let next : (k m : ℕ) → x / k / m % 256 ≡ x / (k * m) % 256 = λ k m. ap (λ y. y % 256) (div-div-eq-div-mul x k m) in
-    (λ i. quad-low x i ++ quad-low (x / 2 ^ 32) i ++ quad-low (x / 2 ^ 64) i ++ quad-low (x / 2 ^ 96) i)
-    ∙ (λ i. quad x
-    ++ ((x / 2 ^ 32 % 256) ∷ next (2 ^ 32) 256 i ∷ next (2 ^ 32) 65536 i ∷ next (2 ^ 32) 16777216 i ∷ [])
-    ++ ((x / 2 ^ 64 % 256) ∷ next (2 ^ 64) 256 i ∷ next (2 ^ 64) 65536 i ∷ next (2 ^ 64) 16777216 i ∷ [])
-    ++ ((x / 2 ^ 96 % 256) ∷ next (2 ^ 96) 256 i ∷ next (2 ^ 96) 65536 i ∷ next (2 ^ 96) 16777216 i ∷ []))
-
 -- the octets of four words side by side
 pub joined : (a b c d : ℕ) → a < 4294967296 → b < 4294967296 → c < 4294967296 → d < 4294967296 → octets (a + b * 4294967296 + c * 18446744073709551616 + d * 79228162514264337593543950336) ≡ quad a ++ quad b ++ quad c ++ quad d
 unfolding octets
@@ -122,8 +64,20 @@ small_four a b c d p q r s (suc (suc zero)) = r
 small_four a b c d p q r s (suc (suc (suc zero))) = s
 small_four a b c d p q r s (suc (suc (suc (suc i)))) = omega arith
 
+none : 0 < 256
+none = omega arith
+
 pub quad-written : (a b c d n : ℕ) → a < 256 → b < 256 → c < 256 → d < 256 → n ≡ from_le_bytes w32 (a ∷ b ∷ c ∷ d ∷ []) → quad n ≡ a ∷ b ∷ c ∷ d ∷ []
 quad-written a b c d n p q r s is = le_bytes_4 (a ∷ b ∷ c ∷ d ∷ []) n refl (small_four a b c d p q r s) is
+
+-- the word of an octet in its row, and zeros
+pub quad-seat : (row v n : ℕ) → row < 4 → v < 256 → n ≡ from_le_bytes w32 (set (replicate 4 0) row v) → quad n ≡ seat row v
+unfolding seat
+quad-seat zero v n h p is = quad-written v 0 0 0 n p none none none is
+quad-seat (suc zero) v n h p is = quad-written 0 v 0 0 n none p none none is
+quad-seat (suc (suc zero)) v n h p is = quad-written 0 0 v 0 n none none p none is
+quad-seat (suc (suc (suc zero))) v n h p is = quad-written 0 0 0 v n none none none p is
+quad-seat (suc (suc (suc (suc row)))) v n h p is = absurd (omega arith)
 
 pub octets-written : (xs : List ℕ) (n : ℕ) → length xs ≡ 16 → ((i : ℕ) → get_or xs i 0 < 256) → n ≡ from_le_bytes w128 xs → octets n ≡ xs
 octets-written xs n long small is =

@@ -7,6 +7,7 @@ ghost use Rattle.std.specs.Prelude.{◌≡◌, ◌<◌, [], length, slice_index_
 ghost use Rattle.aes.specs.Aes.{next_key, expanded, encrypted, aes128};
 ghost use Rattle.aes.specs.Words.{octets, held, round_keys};
 
+use octets::array_at;
 use sbox::substitute;
 use state::State;
 use ttable::{Mixing, Placing};
@@ -35,8 +36,7 @@ pub fn load(block: &[u8]) -> u128
     requires { length block.now ≡ 16 }
     ensures { octets result ≡ block.now }
 {
-    let mut octets = [0u8; 16];
-    octets.copy_from_slice(block);
+    let octets = array_at::<16>(block, 0);
     u128::from_le_bytes(octets)
 }
 

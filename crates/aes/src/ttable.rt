@@ -190,6 +190,8 @@ impl Giving for Placing {
     ghost gives = { places };
 
     fn give(row: usize, x: u8) -> u32 {
-        u32::from(substitute(x)) << (8 * row)
+        let mut octets = [0u8; 4];
+        octets[row] = substitute(x);
+        u32::from_le_bytes(octets)
     }
 }

@@ -1,5 +1,5 @@
-use Rattle.std.proofs.Common.{◌*◌, ◌%◌, ◌^◌, ap, ◌∙◌}
-use Rattle.aes.specs.Words.{quad, seat}
+use Rattle.std.proofs.Common.{ap, ◌∙◌}
+use Rattle.aes.specs.Words.{seat}
 use Rattle.aes.proofs.Quads.{quad-seat}
 use Rattle.aes.proofs.ttable.PlacingGiving.give.Goals as goal
 
@@ -7,5 +7,4 @@ pub returns : goal.returns
 returns c =
     let row = c.args.row in
     let v = c.substitute in
-    ap (λ x. quad ((x * 2 ^ (8 * row)) % 4294967296)) c.from.ensures
-    ∙ quad-seat row v.result c.requires v.type_inv ∙ ap (seat row) v.ensures.value
+    quad-seat row v.result c.from_le_bytes.result c.requires v.type_inv c.from_le_bytes.ensures ∙ ap (seat row) v.ensures.value
