@@ -4,16 +4,7 @@ ghost use Rattle.frame.specs.Headers.{header_length};
 ghost use Rattle.ccmp.specs.Ccmp.{ccmp_nonce, ccmp_additional, head_octets, counter_in};
 
 use octets::{big, little, put};
-
-// A key as an array.
-pub(crate) fn key_octets(key: &[u8]) -> [u8; 16]
-    requires { length key.now ≡ 16 }
-    ensures { result ≡ key.now }
-{
-    let mut octets = [0u8; 16];
-    put(&mut octets, 0, key);
-    octets
-}
+use suite::key_id_octet;
 
 pub(crate) fn nonce(header: &[u8], counter: u64) -> [u8; 13]
     requires { length header.now ≡ header_length }
@@ -21,7 +12,7 @@ pub(crate) fn nonce(header: &[u8], counter: u64) -> [u8; 13]
 {
     let mut octets = [0u8; 13];
     put(&mut octets, 1, &header[10..16]);
-    big::put_u48(&mut octets, 7, counter);
+    big::put_number::<6>(&mut octets, 7, counter);
     octets
 }
 
@@ -42,7 +33,7 @@ pub(crate) fn head(key_id: u8, counter: u64) -> [u8; 8]
     ensures { result ≡ head_octets key_id counter }
 {
     let [a, b, c, d, e, f, _, _] = counter.to_le_bytes();
-    [a, b, 0, key_id * 64 + 32, c, d, e, f]
+    [a, b, 0, key_id_octet(key_id), c, d, e, f]
 }
 
 pub(crate) fn counter(body: &[u8]) -> u64
@@ -50,5 +41,5 @@ pub(crate) fn counter(body: &[u8]) -> u64
     ensures value { result ≡ counter_in body.now }
     ensures bound { result < 2 ^ 48 }
 {
-    little::u16_at(body, 0) as u64 + 65536 * (little::u32_at(body, 4) as u64)
+    little::number_at::<2>(body, 0) + 65536 * little::number_at::<4>(body, 4)
 }

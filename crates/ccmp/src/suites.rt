@@ -1,28 +1,41 @@
 // CCMP as a suite.
-ghost use Rattle.ccmp.specs.Ccmp.{ccmp_sizes, ccmp_code, ccmp_seal, ccmp_head, ccmp_open, ccmp};
+ghost use Rattle.ccmp.specs.Ccmp.{ccmp_code, ccmp_seal, ccmp_head, ccmp_open, ccmp};
 ghost use Rattle.ccmp.specs.Laws;
 ghost use Rattle.std.proofs.Common.{rules};
 
 use crate::fields;
-use frame::Address;
-use octets::put;
-use suite::{Direction, HeadFault, OpenFault, Sizes, Suite};
+use frame::Heading;
+use octets::{array_at, put};
+use suite::{Direction, HeadFault, OpenFault, Suite, key_id_in};
 
 #[derive(Clone, Copy)]
 pub struct Ccmp;
 
+// A body has its head, a piece of 1 to 2,312 octets and its tail.
+const SHORTEST_BODY: usize = Ccmp::HEAD_LENGTH + 1 + Ccmp::TAIL_LENGTH;
+
+const LONGEST_BODY: usize = Ccmp::HEAD_LENGTH + 2312 + Ccmp::TAIL_LENGTH;
+
 impl Suite for Ccmp {
     const HEAD_LENGTH: usize = 8;
 
+    ghost HEAD_LENGTH = { 8 };
+
     const TAIL_LENGTH: usize = 8;
+
+    ghost TAIL_LENGTH = { 8 };
 
     const CODE_LENGTH: usize = 0;
 
+    ghost CODE_LENGTH = { 0 };
+
     const KEY_LENGTH: usize = 16;
 
-    const TOP_COUNTER: u64 = 281474976710655;
+    ghost KEY_LENGTH = { 16 };
 
-    ghost sizes = { ccmp_sizes };
+    const TOP_COUNTER: u64 = 0xffff_ffff_ffff;
+
+    ghost TOP_COUNTER = { 0xFFFF_FFFF_FFFF };
 
     ghost code = { ccmp_code };
 
@@ -38,24 +51,12 @@ impl Suite for Ccmp {
 
     ghost keeps = { Laws.keeps };
 
-    fn sizes() -> Sizes {
-        Sizes {
-            head: Self::HEAD_LENGTH,
-            tail: Self::TAIL_LENGTH,
-            code: Self::CODE_LENGTH,
-            key: Self::KEY_LENGTH,
-            top: Self::TOP_COUNTER,
-        }
-    }
-
     // A message has no code: nothing is written.
     fn code(
         &self,
         key: &[u8],
         direction: Direction,
-        destination: &Address,
-        source: &Address,
-        priority: u8,
+        heading: &Heading,
         message: &[u8],
         out: &mut [u8],
     ) {}
@@ -71,23 +72,17 @@ impl Suite for Ccmp {
     ) {
         put(out, 0, &fields::head(key_id, counter));
         ccm::seal(
-            &fields::key_octets(key),
+            &array_at(key, 0),
             &fields::nonce(header, counter),
             &fields::additional(header),
             piece,
-            &mut out[8..],
+            &mut out[Self::HEAD_LENGTH..],
         );
     }
 
     fn head(&self, body: &[u8]) -> Result<(u64, u8), HeadFault> {
-        if body.len() < 17 {
-            return Err(HeadFault::Short);
-        }
-        let flags = body[3];
-        if flags / 32 % 2 != 1 {
-            return Err(HeadFault::Unmarked);
-        }
-        Ok((fields::counter(body), flags / 64))
+        let key_id = key_id_in(body, SHORTEST_BODY)?;
+        Ok((fields::counter(body), key_id))
     }
 
     fn open(
@@ -97,19 +92,19 @@ impl Suite for Ccmp {
         body: &[u8],
         out: &mut [u8],
     ) -> Result<usize, OpenFault> {
-        if body.len() > 2328 {
+        if body.len() > LONGEST_BODY {
             return Err(OpenFault::Long);
         }
         let right = ccm::open(
-            &fields::key_octets(key),
+            &array_at(key, 0),
             &fields::nonce(header, fields::counter(body)),
             &fields::additional(header),
-            &body[8..body.len()],
+            &body[Self::HEAD_LENGTH..],
             out,
         );
         if !right {
             return Err(OpenFault::Unequal);
         }
-        Ok(body.len() - 16)
+        Ok(body.len() - Self::HEAD_LENGTH - Self::TAIL_LENGTH)
     }
 }

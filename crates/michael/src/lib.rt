@@ -15,6 +15,9 @@ pub mod stages;
 pub use blocks::State;
 pub use stages::{Addressed, Keyed};
 
+// Kept: a key is lent as octets, and each public function asks for eight of them. A type for it would be no plainer: each
+// caller would have to make one first, which asks more of it.
+
 // The code of a whole message.
 pub fn code(key: &[u8], heading: &Heading, message: &[u8]) -> [u8; 8]
     requires { length key.now ≡ 8 }

@@ -1,5 +1,7 @@
 // The key mixing of TKIP: the key of RC4 for each frame. The definitions stand in specs/Mixing.antt.
 // A key is lent as 16 octets or more, of which the first 16 are the temporal key.
+// Kept: each public function asks that they are there. A type for the key would be no plainer: each caller would have to
+// make one first, which asks more of it.
 #![tactic(auto)]
 
 ghost use Rattle.std.specs.Prelude.{◌≡◌, ◌^◌, ◌<◌, ◌≤◌, length};

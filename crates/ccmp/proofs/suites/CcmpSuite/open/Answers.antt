@@ -1,24 +1,16 @@
-use Rattle.std.proofs.Common.{◌≡◌, ◌-◌, ◌≤◌, length, sym, ap, ◌∙◌, arith, rules}
-use Rattle.std.proofs.lemmas.List.{length-drop, take_rest}
+use Rattle.std.proofs.Common.{◌≡◌, ◌-◌, ◌≤◌, length, Ok, sym, ap, ◌∙◌, arith}
+use Rattle.std.proofs.lemmas.List.{take_all}
 use Rattle.suite.specs.Meaning.{length_or_fault}
 use Rattle.ccmp.specs.Ccmp.{opened_in}
 use Rattle.ccmp.specs.Laws.{piece_length}
 use Rattle.ccmp.proofs.Memory.{accepted, answered, answer_right, answer_wrong}
 use Rattle.ccmp.proofs.suites.CcmpSuite.open.Goals as goal
 
-pub open-right-requires : goal.open-right-requires
-open-right-requires c =
-    let body = c.args.body.now in
-    let long = accepted body c.requires.accepted in
-    let rest = ap length (take_rest body 8) ∙ length-drop 8 body in
-    let additional : length c.additional.result ≡ 22 = search rules in
-    record { additional = omega arith; some = omega arith; most = omega arith; room = omega arith }
-
 pub returns-then-not-right : goal.returns-then-not-right
 returns-then-not-right c =
     let body = c.args.body.now in
     let short : length body ≤ 2328 = omega arith in
-    let a = answered c.args.key.now c.args.header.now body c.args.out.now c.open-right.new.out _ _ _ _ c.open-right.result short c.key_octets.ensures c.counter.ensures.value c.nonce.ensures c.additional.ensures c.open-right.ensures.answer c.open-right.ensures.memory in
+    let a = answered c.args.key.now c.args.header.now body c.args.out.now c.open-right.new.out _ _ _ _ c.open-right.result short (c.array_at.ensures ∙ take_all 16 c.args.key.now (omega arith)) c.counter.ensures.value c.nonce.ensures c.additional.ensures c.open-right.ensures.answer c.open-right.ensures.memory in
     record {
       answer = answer_wrong (opened_in c.args.key.now c.args.header.now body) (sym a.which ∙ c.if-not-right.true) ∙ ap length_or_fault a.opened;
       says = short;
@@ -32,9 +24,10 @@ returns c =
     let body = c.args.body.now in
     let long = accepted body c.requires.accepted in
     let short : length body ≤ 2328 = omega arith in
-    let a = answered key header body c.args.out.now c.open-right.new.out _ _ _ _ c.open-right.result short c.key_octets.ensures c.counter.ensures.value c.nonce.ensures c.additional.ensures c.open-right.ensures.answer c.open-right.ensures.memory in
+    let a = answered key header body c.args.out.now c.open-right.new.out _ _ _ _ c.open-right.result short (c.array_at.ensures ∙ take_all 16 c.args.key.now (omega arith)) c.counter.ensures.value c.nonce.ensures c.additional.ensures c.open-right.ensures.answer c.open-right.ensures.memory in
+    let count : length body - 8 - 8 ≡ length body - 16 = omega arith in
     record {
-      answer = answer_right (opened_in key header body) (length body - 16) (sym a.which ∙ c.if-not-right.false) (λ piece e. piece_length key header body piece long e) ∙ ap length_or_fault a.opened;
+      answer = ap Ok count ∙ answer_right (opened_in key header body) (length body - 16) (sym a.which ∙ c.if-not-right.false) (λ piece e. piece_length key header body piece long e) ∙ ap length_or_fault a.opened;
       says = (omega arith, omega arith, omega arith);
       memory = a.left;
     }
