@@ -8,18 +8,25 @@ ghost use Rattle.admission.specs.Ranges.{InRange};
 use ends::{CodedSuites, LAST_TIME, Refusal, State};
 use frame::{Address, Header};
 
+// How long the two memories are that an arrival is lent.
+#[derive(Clone, Copy, Debug)]
+pub struct Lengths {
+    pub working: usize,
+    pub message: usize,
+}
+
 // Clock, memories and the frame's length.
-fn check_ranges(time: u64, working: usize, message: usize, frame: usize) -> Result<(), Refusal>
-    ensures value { result ≡ first (range_checks time working message frame) tt }
-    ensures range { OnOk result (InRange time frame working message) }
+fn check_ranges(time: u64, frame: usize, lengths: Lengths) -> Result<(), Refusal>
+    ensures value { result ≡ first (range_checks time lengths.working lengths.message frame) tt }
+    ensures range { OnOk result (InRange time frame lengths.working lengths.message) }
 {
     if time > LAST_TIME {
         return Err(Refusal::ClockRange);
     }
-    if working < 2560 {
+    if lengths.working < 2560 {
         return Err(Refusal::MemoryShort);
     }
-    if message < 2304 {
+    if lengths.message < 2304 {
         return Err(Refusal::MemoryShort);
     }
     if frame < Header::LENGTH {
@@ -35,13 +42,7 @@ fn check_ranges(time: u64, working: usize, message: usize, frame: usize) -> Resu
 fn is_stranger(state: &State, address: &Address) -> bool
     ensures { result ≡ stranger (held state.now) address.now }
 {
-    if address.number() == state.own.number() {
-        return false;
-    }
-    if state.role.is_base() {
-        return true;
-    }
-    !address.is_group()
+    *address != state.own && (state.role.is_base() || !address.is_group())
 }
 
 // Whether the suite that Address 1 chooses has a code.
@@ -86,20 +87,18 @@ fn check_header(
     Ok(())
 }
 
-// The header of a frame that is for this end and protected, while its suite is not blocked. `working` and `message` are
-// the lengths of the two memories.
+// The header of a frame that is for this end and protected, while its suite is not blocked.
 pub fn admit(
     state: &State,
     coded: CodedSuites,
     frame: &[u8],
     time: u64,
-    working: usize,
-    message: usize,
+    lengths: Lengths,
 ) -> Result<Header, Refusal>
-    ensures value { result ≡ admitted coded (held state.now) frame.now time working message }
-    ensures range { OnOk result (InRange time (length frame.now) working message) }
+    ensures value { result ≡ admitted coded (held state.now) frame.now time lengths.working lengths.message }
+    ensures range { OnOk result (InRange time (length frame.now) lengths.working lengths.message) }
 {
-    check_ranges(time, working, message, frame.len())?;
+    check_ranges(time, frame.len(), lengths)?;
     let header = Header::read(frame)?;
     check_header(state, coded, &header, time)?;
     Ok(header)

@@ -4,30 +4,30 @@ ghost use Rattle.ends.specs.Holding.{held, with_places};
 ghost use Rattle.ends.specs.Checks.{last_time};
 ghost use Rattle.ends.specs.Steps.{soon, emptied, failing};
 
-use ends::{CodedSuites, Slot, State};
+use ends::{CodedSuites, PAIRWISE_PLACES, State};
 
 // in milliseconds
-const MINUTE: u64 = 60000;
+const MINUTE: u64 = 60_000;
 
 // Whether a code failed within a minute before this time, or after it.
 fn is_soon(state: &State, time: u64) -> bool
     ensures { result ≡ soon time (held state.now).failure }
 {
-    match state.last_failure {
-        Some(failure) => time < MINUTE || time - MINUTE < failure,
-        None => false,
-    }
+    state
+        .last_failure
+        .is_some_and(|failure| time < MINUTE || time - MINUTE < failure)
 }
 
 // Empties each place whose suite has a code.
 fn empty(state: &mut State, coded: CodedSuites)
     ensures { held state.new ≡ with_places (held state.old) (emptied coded (held state.old).at) }
 {
+    let (pairwise, group) = state.slots.split_at_mut(PAIRWISE_PLACES);
     if coded.pairwise {
-        state.pairwise = [Slot::Empty; 16];
+        pairwise.fill(None);
     }
     if coded.group {
-        state.group = [Slot::Empty; 3];
+        group.fill(None);
     }
 }
 

@@ -6,6 +6,6 @@ pub mod admitting;
 pub mod failing;
 pub mod matching;
 
-pub use admitting::admit;
+pub use admitting::{Lengths, admit};
 pub use failing::fail;
 pub use matching::find_place;

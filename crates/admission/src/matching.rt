@@ -15,13 +15,15 @@ fn find_group(state: &State, address: &Address, key_id: u8) -> Result<Place, Ref
     ensures exists { IfOk result (λ q. exists q ≡ true) }
 {
     let place = Place::Group(key_id);
-    if !place.exists() {
-        return Err(Refusal::NoMatch);
+    if place.exists()
+        && state
+            .slot(place)
+            .is_some_and(|installation| installation.is_of(address))
+    {
+        Ok(place)
+    } else {
+        Err(Refusal::NoMatch)
     }
-    if !state.slot(place).holds(address) {
-        return Err(Refusal::NoMatch);
-    }
-    Ok(place)
 }
 
 // The far end's place.
@@ -29,10 +31,10 @@ fn find_pairwise(state: &State, address: &Address) -> Result<Place, Refusal>
     ensures value { result ≡ pairwise_or_refuse (place_of_peer (held state.now) address.now) }
     ensures exists { IfOk result (λ q. exists q ≡ true) }
 {
-    match state.place_of_peer(address) {
-        Some(n) => Ok(Place::Pairwise(n)),
-        None => Err(Refusal::NoMatch),
-    }
+    state
+        .place_of_peer(address)
+        .map(Place::Pairwise)
+        .ok_or(Refusal::NoMatch)
 }
 
 // The place that Address 2 and the key ID choose: a pairwise one has key ID 0.

@@ -1,17 +1,16 @@
 -- From what a place made of a frame to what the end makes of it.
-use Rattle.std.proofs.Common.{◌≡◌, ℕ, Bool, true, false, cond, length, drop, Some, None, Ok, Err, Option, Result, sym, refl, ap, ◌∙◌, subst}
+use Rattle.std.proofs.Common.{◌≡◌, ℕ, Bool, true, false, cond, drop, Some, None, Ok, Err, Option, Result, sym, refl, ap, ◌∙◌, subst}
 use mathlib.Core.Path.{fun_ext}
 use Rattle.std.proofs.lemmas.Bool.{eqb-true, true≢false}
 use Rattle.octets.specs.Octets.{Octets, begins}
-use Rattle.frame.specs.Addresses.{number}
 use Rattle.frame.specs.Headers.{header_length}
 use Rattle.frame.specs.declared.headers.Header.{Header}
 use Rattle.suite.specs.Meaning.{Meaning}
+use Rattle.suite.specs.declared.faults.HeadFault.{HeadFault}
 use Rattle.ends.specs.declared.places.Place.{Place}
 use Rattle.ends.specs.declared.places.Place.TheVariants.{Pairwise, Group}
 use Rattle.ends.specs.declared.roles.CodedSuites.{CodedSuites}
 use Rattle.ends.specs.declared.answers.Arrived.{Arrived}
-use Rattle.ends.specs.declared.answers.Arrived.TheVariants.{Held, Delivered}
 use Rattle.ends.specs.declared.refusals.Refusal.{Refusal}
 use Rattle.ends.specs.declared.refusals.Refusal.TheVariants.{HeadRefused, NoMatch}
 use Rattle.ends.specs.Places.{same_place}
@@ -22,14 +21,12 @@ use Rattle.ends.specs.Calls.Answer.{Refused, Came}
 use Rattle.ends.specs.Checks.{then, raised, or_refuse, settled}
 use Rattle.ends.specs.Arrivals.{matched, at_place, over_suite}
 use Rattle.ends.specs.Steps.{answer, message_delivered, failing, failed, soon}
-use Rattle.arriving.specs.declared.completing.Outcome.{Outcome}
-use Rattle.arriving.specs.declared.completing.Outcome.TheVariants.{Good, CodeFailed}
+use Rattle.arriving.specs.declared.completing.Failure.{Failure}
 use Rattle.arriving.specs.Outcomes.{Takes, Took, Arrives, left, outcome, finished, recorded}
-use Rattle.arriving.proofs.Opened.{unlike}
 use Rattle.arriving.proofs.Verdicts.{Names}
 
 -- from the place to the end
-pub took : (e e' : End) (q : Place) (was is : Option Filling) (verdict : Option Filling → Verdict) (old new : Octets) (r : Result Outcome Refusal) → was ≡ e.at q → Takes (verdict was) was is old new r → e' ≡ with_place e q is → Took q (verdict (e.at q)) e e' old new r
+pub took : (e e' : End) (q : Place) (was is : Option Filling) (verdict : Option Filling → Verdict) (old new : Octets) (r : Result Arrived Failure) → was ≡ e.at q → Takes (verdict was) was is old new r → e' ≡ with_place e q is → Took q (verdict (e.at q)) e e' old new r
 took e e' q was is verdict old new r there takes holds = record {
   told = takes.told ∙ ap (λ (f : Option Filling). outcome (verdict f)) there;
   holds = holds ∙ ap (with_place e q) (takes.place ∙ ap (λ (f : Option Filling). left f (verdict f)) there);
@@ -50,54 +47,36 @@ put_same at q = fun_ext (λ p. go p (same_place p q) refl)
     go p true e = ap at (same_is p q e)
     go p false e = refl
 
-module _ (c : CodedSuites) (e e1 : End) (q : Place) (fragment time : ℕ) (old new : Octets) where
-  pub refused : (v : Verdict) (r : Refusal) → Names q fragment time v → Took q v e e1 old new (Err r) → Arrives c v e e1 old new (Err r)
-  refused (Refuses s) r names t =
-      let same : ◌≡◌ {A = Result Outcome Refusal} (Err r) (Err s) = t.told in
-      let is : r ≡ s = cc in
-      record { answered = ap Refused is; holds = λ S coded. t.holds ∙ ap (with_places e) (put_same e.at q); message = t.message }
-  refused (Fills p f) r names t = absurd names
-  refused (Empties p) r names t = absurd names
-  refused (Sends p f frames) r names t = absurd names
-  refused (Holds p f part) r names t = unlike (Good (Held p part.fragment)) r (sym t.told)
-  refused (Delivers p f counter destination source message) r names t =
-      unlike (Good (Delivered (record { place = p; destination = number destination; source = number source; counter = counter; length = length message }))) r (sym t.told)
-  refused (Fails p f n at) r names t = unlike CodeFailed r (sym t.told)
-
-  -- the outcome, recorded where it is a failed code
-  pub finishes : (v : Verdict) (o : Outcome) (e2 : End) (r : Result Arrived Refusal) → Names q fragment time v → Took q v e e1 old new (Ok o) → r ≡ finished (soon time e1.failure) q fragment o → e2 ≡ recorded c e1 time o → Arrives c v e e2 old new r
-  finishes (Refuses s) o e2 r names t is end = unlike o s t.told
-  finishes (Fills p f) o e2 r names t is end = absurd names
-  finishes (Empties p) o e2 r names t is end = absurd names
-  finishes (Sends p f frames) o e2 r names t is end = absurd names
-  finishes (Holds p f part) o e2 r names t is end =
-      let same : ◌≡◌ {A = Result Outcome Refusal} (Ok o) (Ok (Good (Held p part.fragment))) = t.told in
-      let good : o ≡ Good (Held p part.fragment) = cc in
-      record {
-        answered = ap (told Came) (is ∙ ap (finished (soon time e1.failure) q fragment) good);
-        holds = λ S coded. end ∙ ap (recorded c e1 time) good ∙ t.holds ∙ ap (λ (x : Place). with_place e x (left (e.at q) (Holds p f part))) (sym names);
-        message = t.message;
-      }
-  finishes (Delivers p f counter destination source message) o e2 r names t is end =
-      let delivery = Delivered (record { place = p; destination = number destination; source = number source; counter = counter; length = length message }) in
-      let same : ◌≡◌ {A = Result Outcome Refusal} (Ok o) (Ok (Good delivery)) = t.told in
-      let good : o ≡ Good delivery = cc in
-      record {
-        answered = ap (told Came) (is ∙ ap (finished (soon time e1.failure) q fragment) good);
-        holds = λ S coded. end ∙ ap (recorded c e1 time) good ∙ t.holds ∙ ap (λ (x : Place). with_place e x (left (e.at q) (Delivers p f counter destination source message))) (sym names);
-        message = t.message;
-      }
-  finishes (Fails p f n at) o e2 r names t is end =
-      let same : ◌≡◌ {A = Result Outcome Refusal} (Ok o) (Ok CodeFailed) = t.told in
-      let bad : o ≡ CodeFailed = cc in
+-- what was taken in is answered, and a failed code recorded
+module _ (c : CodedSuites) (e e1 e2 : End) (q : Place) (fragment time : ℕ) (old new : Octets) (taken : Result Arrived Failure) (r : Result Arrived Refusal) (is : r ≡ finished (soon time e1.failure) q fragment taken) (end : e2 ≡ recorded c e1 time taken) where
+  pub finishes : (v : Verdict) → Names q fragment time v → Took q v e e1 old new taken → Arrives c v e e2 old new r
+  finishes (Refuses s) names t = record {
+    answered = ap (told Came) (is ∙ ap (finished (soon time e1.failure) q fragment) t.told);
+    holds = λ S coded. end ∙ ap (recorded c e1 time) t.told ∙ t.holds ∙ ap (with_places e) (put_same e.at q);
+    message = t.message;
+  }
+  finishes (Fills p f) names t = absurd names
+  finishes (Empties p) names t = absurd names
+  finishes (Sends p f frames) names t = absurd names
+  finishes (Holds p f part) names t = record {
+    answered = ap (told Came) (is ∙ ap (finished (soon time e1.failure) q fragment) t.told);
+    holds = λ S coded. end ∙ ap (recorded c e1 time) t.told ∙ t.holds ∙ ap (λ (x : Place). with_place e x (left (e.at q) (Holds p f part))) (sym names);
+    message = t.message;
+  }
+  finishes (Delivers p f counter destination source message) names t = record {
+    answered = ap (told Came) (is ∙ ap (finished (soon time e1.failure) q fragment) t.told);
+    holds = λ S coded. end ∙ ap (recorded c e1 time) t.told ∙ t.holds ∙ ap (λ (x : Place). with_place e x (left (e.at q) (Delivers p f counter destination source message))) (sym names);
+    message = t.message;
+  }
+  finishes (Fails p f n at) names t =
       let failure : e1.failure ≡ e.failure = ap (λ (x : End). x.failure) t.holds in
       let here : p ≡ q = names.0 in
       let place : e1 ≡ with_place e p (Some (with_partial f None)) = t.holds ∙ ap (λ (x : Place). with_place e x (Some (with_partial f None))) (sym here) in
       let when : at ≡ time = names.2 in
       let last : n ≡ fragment = names.1 in
       record {
-        answered = ap (told Came) (is ∙ ap (finished (soon time e1.failure) q fragment) bad) ∙ (λ i. Refused (failed (soon (sym when i) (failure i)) (sym here i) (sym last i)));
-        holds = λ S coded. end ∙ ap (recorded c e1 time) bad ∙ (λ i. failing (sym coded i) (place i) (sym when i));
+        answered = ap (told Came) (is ∙ ap (finished (soon time e1.failure) q fragment) t.told) ∙ (λ i. Refused (failed (soon (sym when i) (failure i)) (sym here i) (sym last i)));
+        holds = λ S coded. end ∙ ap (recorded c e1 time) t.told ∙ (λ i. failing (sym coded i) (place i) (sym when i));
         message = t.message;
       }
 
@@ -106,17 +85,17 @@ pub nothing : (c : CodedSuites) (v : Verdict) (e : End) (old : Octets) (r : Refu
 nothing c v e old r result is answer =
     subst (λ (w : Verdict). Arrives c w e e old old result) (sym is) (record { answered = ap (told Came) answer; holds = λ S coded. refl; message = refl })
 
-module _ (M : Meaning) (e : End) (h : Header) (frame : Octets) (time : ℕ) where
+module _ (M : Meaning) (e : End) (h : Header) (frame : Octets) (time : ℕ) (body : Octets) (here : body ≡ drop header_length frame) where
   -- the verdict at the place that was found
   abbrev pub at_found : ℕ → Place → Result Verdict Refusal
   at_found counter q = then (or_refuse NoMatch (e.at q)) (at_place M e.role q h frame counter time)
 
-  by_head : (head : Result (ℕ × ℕ) Refusal) → raised HeadRefused (M.head (drop header_length frame)) ≡ head → over_suite M e h frame time ≡ then head (λ read. then (matched e h read.1) (at_found read.0))
+  by_head : (head : Result (ℕ × ℕ) HeadFault) → head ≡ M.head body → over_suite M e h frame time ≡ then (raised HeadRefused head) (λ read. then (matched e h read.1) (at_found read.0))
   unfolding over_suite
-  by_head head is = ap (λ (o : Result (ℕ × ℕ) Refusal). then o (λ read. then (matched e h read.1) (at_found read.0))) is
+  by_head head is = ap (λ (o : Result (ℕ × ℕ) HeadFault). then (raised HeadRefused o) (λ read. then (matched e h read.1) (at_found read.0))) (ap M.head (sym here) ∙ sym is)
 
-  pub unread : (r : Refusal) → raised HeadRefused (M.head (drop header_length frame)) ≡ Err r → settled (over_suite M e h frame time) ≡ Refuses r
-  unread r is = ap settled (by_head (Err r) is)
+  pub unread : (fault : HeadFault) → Err fault ≡ M.head body → settled (over_suite M e h frame time) ≡ Refuses (HeadRefused fault)
+  unread fault is = ap settled (by_head (Err fault) is)
 
-  pub by_match : (counter id : ℕ) (place : Result Place Refusal) → raised HeadRefused (M.head (drop header_length frame)) ≡ Ok (counter, id) → matched e h id ≡ place → settled (over_suite M e h frame time) ≡ settled (then place (at_found counter))
-  by_match counter id place read is = ap settled (by_head (Ok (counter, id)) read ∙ ap (λ (o : Result Place Refusal). then o (at_found counter)) is)
+  pub by_match : (counter id : ℕ) (place : Result Place Refusal) → Ok (counter, id) ≡ M.head body → place ≡ matched e h id → settled (over_suite M e h frame time) ≡ settled (then place (at_found counter))
+  by_match counter id place read is = ap settled (by_head (Ok (counter, id)) read ∙ ap (λ (o : Result Place Refusal). then o (at_found counter)) (sym is))

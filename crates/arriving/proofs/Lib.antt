@@ -1,5 +1,3 @@
-pub mod Joins
 pub mod Opened
 pub mod Verdicts
-pub mod Stored
 pub mod Finishing

@@ -1,6 +1,6 @@
 -- What stands in working memory, by what each step answered.
-use Rattle.std.proofs.Common.{◌≡◌, ℕ, ◌+◌, ◌≤◌, ◌++◌, length, take, drop, IfOk, Ok, Err, Result, sym, ap, ◌∙◌, subst, arith}
-use Rattle.std.proofs.lemmas.List.{take_at}
+use Rattle.std.proofs.Common.{◌≡◌, ℕ, ◌+◌, ◌≤◌, ◌++◌, length, take, drop, IfOk, MatchResult, IsErrAnd, Ok, Err, Result, sym, ap, ◌∙◌, subst, arith}
+use Rattle.std.proofs.lemmas.List.{take_at, length-append, length-take}
 use Rattle.std.proofs.lemmas.Result.{IfOk-at_ok}
 use Rattle.octets.specs.Octets.{Octets, begins}
 use Rattle.octets.proofs.Writing.{length-begins}
@@ -17,7 +17,6 @@ use Rattle.ends.specs.Holding.{Filling, key_for}
 use Rattle.ends.specs.Checks.{first, then, raised}
 use Rattle.ends.specs.Arrivals.{turn_checks, opened, prior, assembly_checks}
 use Rattle.arriving.specs.Gathering.{Gives, piece_length, refused_at, gathered}
-use Rattle.arriving.proofs.Joins.{whole_length}
 
 pub unlike : {A B X : Type 0} (x : A) (y : B) → ◌≡◌ {A = Result A B} (Ok x) (Err y) → X
 unlike x y e = let z : ◌≡◌ {A = ℕ} 0 1 = cc in absurd (omega arith)
@@ -42,7 +41,7 @@ module _ (M : Meaning) (q : Place) (f : Filling) (h : Header) (frame : Octets) (
   gathers x o size old one two r turn is fits was answer joined =
       let assembled : Octets → Result Octets Refusal = λ piece. first (assembly_checks q h M.sizes.code (length (prior f h ++ piece))) (prior f h ++ piece) in
       let opens = opened_piece M.sizes (drop header_length frame) old one q h.fragment size piece o is fits was answer in
-      let long = whole_length (prior f h) one size opens.0 in
+      let long : length (prior f h ++ take size one) ≡ length (prior f h) + size = simp (length-append, length-take) (omega (arith, opens.0)) in
       let all : first (assembly_checks q h M.sizes.code (length (prior f h) + size)) (prior f h ++ take size one) ≡ gathered M q f h frame counter =
       ap (λ n. first (assembly_checks q h M.sizes.code n) (prior f h ++ take size one)) (sym long)
       ∙ ap (λ (o : Result Octets Refusal). then o assembled) (sym opens.1)

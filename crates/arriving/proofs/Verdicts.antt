@@ -13,7 +13,9 @@ use Rattle.ends.specs.Calls.Verdict.{Refuses, Fills, Empties, Sends, Holds, Deli
 use Rattle.ends.specs.Checks.{Check, first, then, or_refuse, settled}
 use Rattle.ends.specs.Arrivals.{turn_checks, opened, prior, assembly_checks, part_of, destination_in, source_in, message_in, code_agrees, completed, at_place}
 use Rattle.admission.proofs.Reading.{first_then}
-use Rattle.arriving.specs.declared.completing.Outcome.{Outcome}
+use Rattle.ends.specs.declared.answers.Arrived.{Arrived}
+use Rattle.arriving.specs.declared.completing.Failure.{Failure}
+use Rattle.arriving.specs.declared.completing.Failure.TheVariants.{Refused}
 use Rattle.arriving.specs.Gathering.{gathered}
 use Rattle.arriving.specs.Outcomes.{Takes}
 
@@ -44,7 +46,7 @@ module _ (M : Meaning) (role : Role) (q : Place) (h : Header) (frame : Octets) (
         (λ _. then_through (opened M q f h frame) joined done last
         (λ piece. first_then (checks piece) (prior f h ++ piece) (completed M role q f h counter time)))
 
-    pub refuses : (r : Refusal) (result : Result Outcome Refusal) (old : Octets) → gathered M q f h frame counter ≡ Err r → result ≡ Err r → Takes (settled (at_place M role q h frame counter time f)) (Some f) (Some f) old old result
+    pub refuses : (r : Refusal) (result : Result Arrived Failure) (old : Octets) → gathered M q f h frame counter ≡ Err r → result ≡ Err (Refused r) → Takes (settled (at_place M role q h frame counter time f)) (Some f) (Some f) old old result
     refuses r result old e is =
         let v : at_place M role q h frame counter time f ≡ Err r = by_gathered ∙ ap (λ (g : Result Octets Refusal). then g (λ whole. Ok (completed M role q f h counter time whole))) e in
         subst (λ (v : Result Verdict Refusal). Takes (settled v) (Some f) (Some f) old old result) (sym v) (record { told = is; place = refl; message = refl })

@@ -1,6 +1,5 @@
 // A frame at an end.
-ghost use Rattle.std.specs.Prelude.{◌≡◌, ℕ, ◌≤◌, true, length, drop, is_ok};
-ghost use Rattle.frame.specs.Headers.{header_length};
+ghost use Rattle.std.specs.Prelude.{◌≡◌, ℕ, ◌≤◌, true, length};
 ghost use Rattle.ends.specs.Places.{exists};
 ghost use Rattle.ends.specs.Holding.{held};
 ghost use Rattle.ends.specs.Checks.{then, or_refuse, settled, last_time};
@@ -11,65 +10,49 @@ ghost use Rattle.admission.specs.Ranges.{InRange};
 ghost use Rattle.arriving.specs.Gathering.{Ready};
 ghost use Rattle.arriving.specs.Outcomes.{Took, Arrives, finished, recorded};
 
-use crate::completing::{Outcome, take_in};
-use crate::incoming::Incoming;
+use crate::completing::Failure;
+use crate::incoming::{Admitted, Hearing, Incoming};
 use crate::pieces::body_of;
 use admission::{fail, find_place};
-use ends::{Arrived, CodedSuites, Place, Refusal, State};
-use frame::Header;
+use ends::{Arrived, Place, Refusal, State};
 use suite::Suite;
 
-// What a place of the end makes of a frame.
-fn take_at<S: Suite>(
-    suite: &S,
-    state: &mut State,
-    incoming: Incoming,
-    working: &mut [u8],
-    message: &mut [u8],
-) -> Result<Outcome, Refusal>
-    requires exists { exists incoming.place ≡ true }
-    requires ready { Ready S.Suite.means incoming.frame.now (length working.old) }
-    requires memory { 2304 ≤ length message.old }
-    ensures { (time : ℕ) → Took incoming.entry.place (settled (then (or_refuse NoMatch ((held state.old).at incoming.entry.place)) (at_place S.Suite.means state.old.role incoming.entry.place incoming.entry.header.now incoming.entry.frame.now incoming.entry.counter time))) (held state.old) (held state.new) message.old message.new result }
-{
-    let role = state.role;
-    match incoming.place {
-        Place::Pairwise(n) => take_in(
-            suite,
-            &mut state.pairwise[n as usize],
-            role,
-            incoming,
-            working,
-            message,
-        ),
-        Place::Group(n) => take_in(
-            suite,
-            &mut state.group[n as usize - 1],
-            role,
-            incoming,
-            working,
-            message,
-        ),
+impl<S: Suite> Hearing<'_, S> {
+    // What a place of the end makes of a frame.
+    fn take_at(
+        &self,
+        state: &mut State,
+        working: &mut [u8],
+        message: &mut [u8],
+    ) -> Result<Arrived, Failure>
+        requires exists { exists self.now.incoming.place ≡ true }
+        requires ready { Ready S.Suite.means self.now.incoming.frame.now (length working.old) }
+        requires memory { 2304 ≤ length message.old }
+        ensures { (time : ℕ) → Took self.now.incoming.place (settled (then (or_refuse NoMatch ((held state.old).at self.now.incoming.place)) (at_place S.Suite.means self.now.role self.now.incoming.place self.now.incoming.header.now self.now.incoming.frame.now self.now.incoming.counter time))) (held state.old) (held state.new) message.old message.new result }
+    {
+        let index = self.incoming.place.index();
+        self.take_in(&mut state.slots[index], working, message)
     }
 }
 
-// Records a failed code, and refuses the frame for it.
+// What the end answers: it records a failed code, and refuses the frame for it.
 fn finish(
     state: &mut State,
-    coded: CodedSuites,
+    admitted: &Admitted,
     place: Place,
-    fragment: u8,
-    time: u64,
-    outcome: Outcome,
+    taken: Result<Arrived, Failure>,
 ) -> Result<Arrived, Refusal>
-    requires { time ≤ last_time }
-    ensures answer { result ≡ finished (soon time (held state.old).failure) place fragment outcome }
-    ensures holds { held state.new ≡ recorded coded (held state.old) time outcome }
+    requires { admitted.now.time ≤ last_time }
+    ensures answer { result ≡ finished (soon admitted.now.time (held state.old).failure) place admitted.now.header.now.fragment taken }
+    ensures holds { held state.new ≡ recorded admitted.now.coded (held state.old) admitted.now.time taken }
 {
-    match outcome {
-        Outcome::Good(arrived) => Ok(arrived),
-        Outcome::CodeFailed => {
-            if fail(state, coded, time) {
+    let fragment = admitted.header.fragment;
+    // Kept: tried as `map_err`, and the proof did not close: nothing is known of a state that its closure changes.
+    match taken {
+        Ok(arrived) => Ok(arrived),
+        Err(Failure::Refused(refusal)) => Err(refusal),
+        Err(Failure::CodeFailed) => {
+            if fail(state, admitted.coded, admitted.time) {
                 Err(Refusal::BlockBegun(place, fragment))
             } else {
                 Err(Refusal::CodeFailed(place, fragment))
@@ -78,53 +61,30 @@ fn finish(
     }
 }
 
-// A frame at the place that it is for.
-fn arrive_at<S: Suite>(
-    suite: &S,
-    state: &mut State,
-    coded: CodedSuites,
-    incoming: Incoming,
-    time: u64,
-    working: &mut [u8],
-    message: &mut [u8],
-) -> Result<Arrived, Refusal>
-    requires exists { exists incoming.place ≡ true }
-    requires accepted { is_ok (S.Suite.means.head (drop header_length incoming.frame.now)) ≡ true }
-    requires range { InRange time (length incoming.frame.now) (length working.old) (length message.old) }
-    ensures { Arrives coded (settled (then (or_refuse NoMatch ((held state.old).at incoming.entry.place)) (at_place S.Suite.means state.old.role incoming.entry.place incoming.entry.header.now incoming.entry.frame.now incoming.entry.counter time))) (held state.old) (held state.new) message.old message.new result }
-{
-    let outcome = take_at(suite, state, incoming, working, message)?;
-    finish(
-        state,
-        coded,
-        incoming.place,
-        incoming.header.fragment,
-        time,
-        outcome,
-    )
-}
-
 // A frame that was admitted, over its suite. The working memory is left as it happens to be: its owner wipes it.
 pub fn arrive_over<S: Suite>(
     suite: &S,
     state: &mut State,
-    coded: CodedSuites,
-    header: &Header,
-    frame: &[u8],
-    time: u64,
+    admitted: &Admitted,
+    // Kept: no plainer: were the two memories one struct, each contract would have to say that it holds the same two.
     working: &mut [u8],
     message: &mut [u8],
 ) -> Result<Arrived, Refusal>
-    requires { InRange time (length frame.now) (length working.old) (length message.old) }
-    ensures { Arrives coded (settled (over_suite S.Suite.means (held state.old) header.now frame.now time)) (held state.old) (held state.new) message.old message.new result }
+    requires { InRange admitted.now.time (length admitted.now.frame.now) (length working.old) (length message.old) }
+    ensures { Arrives admitted.now.coded (settled (over_suite S.Suite.means (held state.old) admitted.now.header.now admitted.now.frame.now admitted.now.time)) (held state.old) (held state.new) message.old message.new result }
 {
-    let (counter, key_id) = suite.head(body_of(frame))?;
-    let place = find_place(state, header, key_id)?;
-    let incoming = Incoming {
-        place,
-        header,
-        counter,
-        frame,
+    let (counter, key_id) = suite.head(body_of(admitted.frame))?;
+    let place = find_place(state, admitted.header, key_id)?;
+    let hearing = Hearing {
+        suite,
+        role: state.role,
+        incoming: Incoming {
+            place,
+            header: admitted.header,
+            counter,
+            frame: admitted.frame,
+        },
     };
-    arrive_at(suite, state, coded, incoming, time, working, message)
+    let taken = hearing.take_at(state, working, message);
+    finish(state, admitted, place, taken)
 }

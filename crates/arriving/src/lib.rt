@@ -9,3 +9,4 @@ mod pieces;
 mod turns;
 
 pub use arrivals::arrive_over;
+pub use incoming::Admitted;

@@ -3,9 +3,9 @@ ghost use Rattle.std.specs.Prelude.{◌≡◌, ◌≤◌, true, length, take, dr
 ghost use Rattle.frame.specs.Headers.{header_length};
 ghost use Rattle.suite.specs.Meaning.{left_by_open};
 ghost use Rattle.ends.specs.Holding.{filling, key_for};
-ghost use Rattle.ends.specs.Checks.{raised};
 ghost use Rattle.arriving.specs.Gathering.{piece_length, refused_at};
 
+use crate::incoming::Hearing;
 use ends::{Installation, Place, Refusal};
 use frame::Header;
 use suite::{PieceFault, Suite};
@@ -15,8 +15,7 @@ pub fn key_for<'a, S: Suite>(installation: &'a Installation) -> &'a [u8]
     ensures value { result.now ≡ key_for S.Suite.means (filling installation.now) }
     ensures long { length result.now ≡ S.Suite.means.sizes.key }
 {
-    let sizes = S::sizes();
-    let length = sizes.key;
+    let length = S::sizes().key;
     &installation.key[0..length]
 }
 
@@ -27,32 +26,34 @@ pub fn body_of(frame: &[u8]) -> &[u8]
     &frame[Header::LENGTH..]
 }
 
-// Opens the piece of a frame whose head was read.
-pub fn open_piece<S: Suite>(
-    suite: &S,
-    installation: &Installation,
-    frame: &[u8],
-    working: &mut [u8],
-) -> Result<usize, PieceFault>
-    requires accepted { is_ok (S.Suite.means.head (drop header_length frame.now)) ≡ true }
-    requires least { header_length ≤ length frame.now }
-    requires room { length frame.now ≤ length working.old }
-    ensures answer { result ≡ piece_length (S.Suite.means.opens (key_for S.Suite.means (filling installation.now)) (take header_length frame.now) (drop header_length frame.now)) }
-    ensures fits { IfOk result (λ size. size ≤ length working.old) }
-    ensures memory { working.new ≡ left_by_open S.Suite.means.sizes (drop header_length frame.now) (S.Suite.means.opens (key_for S.Suite.means (filling installation.now)) (take header_length frame.now) (drop header_length frame.now)) working.old }
+// The refusal that a piece's fault is: a fault knows neither place nor fragment.
+pub fn refusal_at(place: Place, fragment: u8, fault: PieceFault) -> Refusal
+    ensures { result ≡ refused_at place fragment fault }
 {
-    let key = key_for::<S>(installation);
-    let size = suite.open(key, &frame[0..Header::LENGTH], body_of(frame), working)?;
-    Ok(size)
+    match fault {
+        PieceFault::Head(fault) => Refusal::HeadRefused(fault),
+        PieceFault::Open(fault) => Refusal::OpenRefused(place, fragment, fault),
+    }
 }
 
-// The refusal that a piece's fault is: a fault knows neither place nor fragment.
-pub fn placed(place: Place, fragment: u8, res: Result<usize, PieceFault>) -> Result<usize, Refusal>
-    ensures { result ≡ raised (refused_at place fragment) res }
-{
-    match res {
-        Ok(size) => Ok(size),
-        Err(PieceFault::Head(fault)) => Err(Refusal::HeadRefused(fault)),
-        Err(PieceFault::Open(fault)) => Err(Refusal::OpenRefused(place, fragment, fault)),
+impl<S: Suite> Hearing<'_, S> {
+    // Opens the piece of a frame whose head was read.
+    pub fn open_piece(
+        &self,
+        installation: &Installation,
+        working: &mut [u8],
+    ) -> Result<usize, PieceFault>
+        requires accepted { is_ok (S.Suite.means.head (drop header_length self.now.incoming.frame.now)) ≡ true }
+        requires least { header_length ≤ length self.now.incoming.frame.now }
+        requires room { length self.now.incoming.frame.now ≤ length working.old }
+        ensures answer { result ≡ piece_length (S.Suite.means.opens (key_for S.Suite.means (filling installation.now)) (take header_length self.now.incoming.frame.now) (drop header_length self.now.incoming.frame.now)) }
+        ensures fits { IfOk result (λ size. size ≤ length working.old) }
+        ensures memory { working.new ≡ left_by_open S.Suite.means.sizes (drop header_length self.now.incoming.frame.now) (S.Suite.means.opens (key_for S.Suite.means (filling installation.now)) (take header_length self.now.incoming.frame.now) (drop header_length self.now.incoming.frame.now)) working.old }
+    {
+        let frame = self.incoming.frame;
+        let key = key_for::<S>(installation);
+        let header = &frame[0..Header::LENGTH];
+        let size = self.suite.open(key, header, body_of(frame), working)?;
+        Ok(size)
     }
 }

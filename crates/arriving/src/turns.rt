@@ -11,48 +11,46 @@ use frame::Header;
 fn follows(before: u64, after: u64) -> bool
     ensures { result ≡ (before + 1 == after) }
 {
-    after > 0 && before == after - 1
+    before.checked_add(1) == Some(after)
 }
 
 fn has_addresses(partial: &Partial, header: &Header) -> bool
     ensures { result ≡ all (same_address partial.now.address1 header.now.address1 ∷ same_address partial.now.address2 header.now.address2 ∷ same_address partial.now.address3 header.now.address3 ∷ []) }
 {
-    partial.address1.number() == header.address1.number()
-        && partial.address2.number() == header.address2.number()
-        && partial.address3.number() == header.address3.number()
+    partial.address1 == header.address1
+        && partial.address2 == header.address2
+        && partial.address3 == header.address3
 }
 
 // Whether a later fragment goes on from a partial message.
-fn continues(partial: &Partial, incoming: Incoming) -> bool
-    ensures { result ≡ continues (Some (part_in partial.now)) incoming.entry.header.now incoming.entry.counter }
+fn continues(partial: &Partial, header: &Header, counter: u64) -> bool
+    ensures { result ≡ continues (Some (part_in partial.now)) header.now counter }
 {
-    let header = incoming.header;
     follows(u64::from(partial.fragment), u64::from(header.fragment))
-        && follows(partial.counter, incoming.counter)
+        && follows(partial.counter, counter)
         && partial.sequence == header.sequence
         && has_addresses(partial, header)
 }
 
-fn is_out_of_turn(installation: &Installation, incoming: Incoming) -> bool
-    ensures { result ≡ out_of_turn (filling installation.now) incoming.entry.header.now incoming.entry.counter }
-{
-    if incoming.header.fragment == 0 {
-        return false;
+impl Incoming<'_> {
+    fn is_out_of_turn(&self, installation: &Installation) -> bool
+        ensures { result ≡ out_of_turn (filling installation.now) self.now.header.now self.now.counter }
+    {
+        let header = self.header;
+        let counter = self.counter;
+        let partial = installation.partial.as_ref();
+        header.fragment > 0 && !partial.is_some_and(|partial| continues(partial, header, counter))
     }
-    match &installation.partial {
-        Some(partial) => !continues(partial, incoming),
-        None => true,
-    }
-}
 
-pub fn check_turn(installation: &Installation, incoming: Incoming) -> Result<(), Refusal>
-    ensures { result ≡ first (turn_checks incoming.entry.place (filling installation.now) incoming.entry.header.now incoming.entry.counter) tt }
-{
-    if incoming.counter <= installation.replay {
-        return Err(Refusal::Replayed(incoming.place, incoming.header.fragment));
+    pub fn check_turn(&self, installation: &Installation) -> Result<(), Refusal>
+        ensures { result ≡ first (turn_checks self.now.place (filling installation.now) self.now.header.now self.now.counter) tt }
+    {
+        if self.counter <= installation.replay {
+            return Err(Refusal::Replayed(self.place, self.header.fragment));
+        }
+        if self.is_out_of_turn(installation) {
+            return Err(Refusal::OutOfTurn(self.place, self.header.fragment));
+        }
+        Ok(())
     }
-    if is_out_of_turn(installation, incoming) {
-        return Err(Refusal::OutOfTurn(incoming.place, incoming.header.fragment));
-    }
-    Ok(())
 }

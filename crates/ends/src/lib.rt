@@ -16,5 +16,8 @@ pub use refusals::Refusal;
 pub use requests::{InstallRequest, Plan, Request, Span};
 pub use roles::{CodedSuites, Role, State};
 
+// So many slots of an end are pairwise places'; the groups' stand behind them.
+pub const PAIRWISE_PLACES: usize = 16;
+
 // The last time that a clock may show, in milliseconds: 2^62.
 pub const LAST_TIME: u64 = 0x4000_0000_0000_0000;

@@ -3,6 +3,7 @@ ghost use Rattle.std.specs.Prelude.{◌≡◌, ◌<◌, true};
 ghost use Rattle.ends.specs.Places.{exists, index_of, is_group_place, key_id_of};
 ghost use Rattle.ends.specs.Holding.{same_address};
 
+use crate::PAIRWISE_PLACES;
 use crate::joined::Joined;
 use frame::Address;
 use std::fmt;
@@ -59,7 +60,7 @@ impl Place {
     {
         match self {
             Place::Pairwise(n) => usize::from(n),
-            Place::Group(n) => usize::from(n) + 15,
+            Place::Group(n) => PAIRWISE_PLACES + usize::from(n) - 1,
         }
     }
 

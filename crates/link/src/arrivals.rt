@@ -9,8 +9,8 @@ ghost use Rattle.ends.specs.Steps.{IsStep, memories_of_arrival};
 ghost use Rattle.link.specs.Whole.{held_by, SameSuites};
 
 use crate::link_ends::LinkEnd;
-use admission::admit;
-use arriving::arrive_over;
+use admission::{Lengths, admit};
+use arriving::{Admitted, arrive_over};
 use ends::{Arrived, CodedSuites, Refusal};
 use octets::Wipe;
 use suite::Suite;
@@ -19,11 +19,9 @@ use suite::Suite;
 fn coded_suites<P: Suite, G: Suite>() -> CodedSuites
     ensures { result ≡ coded_suites (suites P.Suite.means G.Suite.means) }
 {
-    let pairwise = P::sizes();
-    let group = G::sizes();
     CodedSuites {
-        pairwise: pairwise.code > 0,
-        group: group.code > 0,
+        pairwise: P::sizes().code > 0,
+        group: G::sizes().code > 0,
     }
 }
 
@@ -42,22 +40,23 @@ impl<P: Suite, G: Suite> LinkEnd<P, G> {
     {
         let guard = Wipe { octets: working };
         let coded = coded_suites::<P, G>();
-        let header = admit(
-            &self.state,
+        let lengths = Lengths {
+            working: guard.octets.len(),
+            message: message.len(),
+        };
+        let header = admit(&self.state, coded, frame, time, lengths)?;
+        let admitted = Admitted {
             coded,
+            header: &header,
             frame,
             time,
-            guard.octets.len(),
-            message.len(),
-        )?;
+        };
+        // Kept: no plainer: the suites are of two types, and each has its call of the one generic function.
         if header.address1.is_group() {
             arrive_over(
                 &self.group_suite,
                 &mut self.state,
-                coded,
-                &header,
-                frame,
-                time,
+                &admitted,
                 guard.octets,
                 message,
             )
@@ -65,10 +64,7 @@ impl<P: Suite, G: Suite> LinkEnd<P, G> {
             arrive_over(
                 &self.pairwise_suite,
                 &mut self.state,
-                coded,
-                &header,
-                frame,
-                time,
+                &admitted,
                 guard.octets,
                 message,
             )

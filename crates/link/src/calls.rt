@@ -12,7 +12,7 @@ ghost use Rattle.laws.specs.Laws.{CountersOfFramesDiffer, CountersOfDeliveriesRi
 ghost use Rattle.link.specs.Whole.{held_by, no_address, HasSuites, SameSuites};
 
 use crate::link_ends::LinkEnd;
-use ends::{Place, Refusal, Role, State};
+use ends::{InstallRequest, Place, Refusal, Role, State};
 use frame::Address;
 use laws::laws_of_runs;
 use suite::{Sizes, Suite};
@@ -70,7 +70,14 @@ impl<P: Suite, G: Suite> LinkEnd<P, G> {
         ensures suites { SameSuites self.old self.new }
     {
         let sizes = sizes_at::<P, G>(place);
-        installing::install(&mut self.state, &sizes, place, key, address, start, time)
+        let request = InstallRequest {
+            place,
+            key,
+            address: *address,
+            start,
+            time,
+        };
+        installing::install(&mut self.state, &sizes, &request)
     }
 
     // Empties a place.

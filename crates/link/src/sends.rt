@@ -27,6 +27,7 @@ impl<P: Suite, G: Suite> LinkEnd<P, G> {
         ensures suites { SameSuites self.old self.new }
     {
         let guard = Wipe { octets: working };
+        // Kept: no plainer: the suites are of two types, and each has its call of the one generic function.
         match request.place {
             Place::Pairwise(_) => send_over(
                 &self.pairwise_suite,
