@@ -1,5 +1,5 @@
 -- What stands in working memory, by what each step answered.
-use Rattle.std.proofs.Common.{◌≡◌, ℕ, ◌+◌, ◌≤◌, ◌++◌, length, take, drop, IfOk, MatchResult, IsErrAnd, Ok, Err, Result, sym, ap, ◌∙◌, subst, arith}
+use Rattle.std.proofs.Common.{◌≡◌, ℕ, ◌+◌, ◌≤◌, ◌++◌, length, take, drop, IfOk, Ok, Err, Result, sym, ap, ◌∙◌, subst, arith}
 use Rattle.std.proofs.lemmas.List.{take_at, length-append, length-take}
 use Rattle.std.proofs.lemmas.Result.{IfOk-at_ok}
 use Rattle.octets.specs.Octets.{Octets, begins}
@@ -18,12 +18,11 @@ use Rattle.ends.specs.Checks.{first, then, raised}
 use Rattle.ends.specs.Arrivals.{turn_checks, opened, prior, assembly_checks}
 use Rattle.arriving.specs.Gathering.{Gives, piece_length, refused_at, gathered}
 
-pub unlike : {A B X : Type 0} (x : A) (y : B) → ◌≡◌ {A = Result A B} (Ok x) (Err y) → X
-unlike x y e = let z : ◌≡◌ {A = ℕ} 0 1 = cc in absurd (omega arith)
-
 -- a piece that was opened, where the suite's answer passed on
 opened_piece : (z : Sizes) (body old memory : Octets) (q : Place) (fragment size : ℕ) (piece : Result Octets OpenFault) (o : Result ℕ PieceFault) → o ≡ piece_length piece → IfOk o (λ n. n ≤ length old) → memory ≡ left_by_open z body piece old → Ok size ≡ raised (refused_at q fragment) o → (size ≤ length memory) × (raised (OpenRefused q fragment) piece ≡ Ok (take size memory))
-opened_piece z body old memory q fragment size (Err fault) o is fits was answer = unlike size (OpenRefused q fragment fault) (answer ∙ ap (raised (refused_at q fragment)) is)
+opened_piece z body old memory q fragment size (Err fault) o is fits was answer =
+    let told : ◌≡◌ {A = Result ℕ Refusal} (Ok size) (Err (OpenRefused q fragment fault)) = answer ∙ ap (raised (refused_at q fragment)) is in
+    absurd cc
 opened_piece z body old memory q fragment size (Ok piece) o is fits was answer =
     let told : ◌≡◌ {A = Result ℕ Refusal} (Ok size) (Ok (length piece)) = answer ∙ ap (raised (refused_at q fragment)) is in
     let same : length piece ≡ size = cc in

@@ -14,12 +14,11 @@ use Rattle.ends.specs.Holding.{Filling}
 use Rattle.ends.specs.Checks.{first, then}
 use Rattle.ends.specs.Arrivals.{turn_checks, opened, prior, assembly_checks}
 
--- a frame whose head the suite read, and a working memory in which it can be opened and joined
-pub record Ready (M : Meaning) (frame : Octets) (working : ℕ) : Type 0 where
+-- a frame whose head the suite read, and which fits a working memory
+pub record Ready (M : Meaning) (frame : Octets) : Type 0 where
   pub accepted : is_ok (M.head (drop header_length frame)) ≡ true
   pub least : header_length ≤ length frame
   pub most : length frame ≤ 2352
-  pub room : 2560 ≤ working
 
 -- what a function answers that writes octets to the start of a memory: how many, or why there are none
 abbrev pub Gives : {E : Type 0} → Result Octets E → Result ℕ E → Octets → Type 0

@@ -7,7 +7,6 @@ ghost use Rattle.ends.specs.Arrivals.{at_place, over_suite};
 ghost use Rattle.ends.specs.Steps.{soon};
 ghost use Rattle.ends.specs.declared.refusals.Refusal.TheVariants.{NoMatch};
 ghost use Rattle.admission.specs.Ranges.{InRange};
-ghost use Rattle.arriving.specs.Gathering.{Ready};
 ghost use Rattle.arriving.specs.Outcomes.{Took, Arrives, finished, recorded};
 
 use crate::completing::Failure;
@@ -26,7 +25,7 @@ impl<S: Suite> Hearing<'_, S> {
         message: &mut [u8],
     ) -> Result<Arrived, Failure>
         requires exists { exists self.now.incoming.place ≡ true }
-        requires ready { Ready S.Suite.means self.now.incoming.frame.now (length working.old) }
+        requires room { 2560 ≤ length working.old }
         requires memory { 2304 ≤ length message.old }
         ensures { (time : ℕ) → Took self.now.incoming.place (settled (then (or_refuse NoMatch ((held state.old).at self.now.incoming.place)) (at_place S.Suite.means self.now.role self.now.incoming.place self.now.incoming.header.now self.now.incoming.frame.now self.now.incoming.counter time))) (held state.old) (held state.new) message.old message.new result }
     {

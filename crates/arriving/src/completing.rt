@@ -4,7 +4,6 @@ ghost use Rattle.ends.specs.Holding.{filling, filled};
 ghost use Rattle.ends.specs.Checks.{then, or_refuse, settled};
 ghost use Rattle.ends.specs.Arrivals.{direction_to, destination_in, source_in, code_agrees, completed, at_place};
 ghost use Rattle.ends.specs.declared.refusals.Refusal.TheVariants.{NoMatch};
-ghost use Rattle.arriving.specs.Gathering.{Ready};
 ghost use Rattle.arriving.specs.Outcomes.{Takes};
 ghost use Rattle.arriving.specs.declared.completing.Failure.TheVariants.{Refused};
 
@@ -16,7 +15,7 @@ use octets::same;
 use suite::{Direction, Suite};
 
 // Why a place takes in no piece.
-#[derive(Clone, Copy)]
+#[derive(Clone, Copy, PartialEq, Eq, Debug)]
 pub enum Failure {
     Refused(Refusal),
     // the code is not that of the message: the end still has to record it
@@ -72,7 +71,7 @@ impl<S: Suite> Hearing<'_, S> {
             key_for::<S>(installation),
             direction_to(self.role),
             &heading,
-            &whole[0..size],
+            &whole[..size],
             code,
         );
         same(code, &whole[size..])
@@ -104,7 +103,7 @@ impl<S: Suite> Hearing<'_, S> {
         if !agrees {
             return Err(Failure::CodeFailed);
         }
-        message[0..length].copy_from_slice(&whole[0..length]);
+        message[..length].copy_from_slice(&whole[..length]);
         installation.replay = incoming.counter;
         let heading = heading_in(self.role, header);
         Ok(Arrived::Delivered(Delivery {
@@ -123,14 +122,14 @@ impl<S: Suite> Hearing<'_, S> {
         working: &mut [u8],
         message: &mut [u8],
     ) -> Result<Arrived, Failure>
-        requires ready { Ready S.Suite.means self.now.incoming.frame.now (length working.old) }
+        requires room { 2560 ≤ length working.old }
         requires memory { 2304 ≤ length message.old }
         ensures { (time : ℕ) → Takes (settled (at_place S.Suite.means self.now.role self.now.incoming.place self.now.incoming.header.now self.now.incoming.frame.now self.now.incoming.counter time (filling installation.old))) (Some (filling installation.old)) (Some (filling installation.new)) message.old message.new result }
     {
         let size = self.gather(installation, working)?;
         let code = S::sizes().code;
         let (whole, rest) = working.split_at_mut(size);
-        self.complete(installation, whole, &mut rest[0..code], message)
+        self.complete(installation, whole, &mut rest[..code], message)
     }
 
     // What a place, filled or not, makes of a frame.
@@ -140,7 +139,7 @@ impl<S: Suite> Hearing<'_, S> {
         working: &mut [u8],
         message: &mut [u8],
     ) -> Result<Arrived, Failure>
-        requires ready { Ready S.Suite.means self.now.incoming.frame.now (length working.old) }
+        requires room { 2560 ≤ length working.old }
         requires memory { 2304 ≤ length message.old }
         ensures { (time : ℕ) → Takes (settled (then (or_refuse NoMatch (filled slot.old)) (at_place S.Suite.means self.now.role self.now.incoming.place self.now.incoming.header.now self.now.incoming.frame.now self.now.incoming.counter time))) (filled slot.old) (filled slot.new) message.old message.new result }
     {

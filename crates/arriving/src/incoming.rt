@@ -1,9 +1,12 @@
 // A frame on its way to its place.
+ghost use Rattle.arriving.specs.Gathering.{Ready};
+
 use ends::{CodedSuites, Place, Role};
 use frame::Header;
+use suite::Suite;
 
 // A frame that was admitted, when it came, and which of the end's suites have a code.
-#[derive(Clone, Copy)]
+#[derive(Clone, Copy, Debug)]
 pub struct Admitted<'a> {
     pub coded: CodedSuites,
     pub header: &'a Header,
@@ -21,10 +24,11 @@ pub struct Incoming<'a> {
     pub frame: &'a [u8],
 }
 
-// A frame that an end of this role hears, and the suite that it is over.
+// A frame that an end of this role hears, and the suite that it is over, which read its head.
 #[derive(Drop)]
-pub struct Hearing<'a, S> {
+pub struct Hearing<'a, S: Suite> {
     pub suite: &'a S,
     pub role: Role,
     pub incoming: Incoming<'a>,
+    pub ghost ready: { Ready S.Suite.means incoming.frame.now },
 }

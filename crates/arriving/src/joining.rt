@@ -3,7 +3,7 @@ ghost use Rattle.std.specs.Prelude.{◌≡◌, ◌+◌, ◌<◌, ◌≤◌, fals
 ghost use Rattle.ends.specs.Holding.{filling, with_partial};
 ghost use Rattle.ends.specs.Checks.{first};
 ghost use Rattle.ends.specs.Arrivals.{prior, too_short, assembly_checks, part_of};
-ghost use Rattle.arriving.specs.Gathering.{Ready, Gives, gathered};
+ghost use Rattle.arriving.specs.Gathering.{Gives, gathered};
 
 use crate::incoming::{Hearing, Incoming};
 use crate::pieces::refusal_at;
@@ -30,8 +30,8 @@ fn join(prior: &[u8], size: usize, working: &mut [u8])
     ensures { take (length prior.now + size) working.new ≡ prior.now ++ take size working.old }
 {
     let before = prior.len();
-    working.copy_within(0..size, before);
-    working[0..before].copy_from_slice(prior);
+    working.copy_within(..size, before);
+    working[..before].copy_from_slice(prior);
 }
 
 // A whole message is longer than its code.
@@ -67,7 +67,7 @@ impl Incoming<'_> {
     }
 
     // Holds the pieces so far, in the place's own memory.
-    pub fn hold(&self, installation: &mut Installation, whole: &[u8])
+    pub(crate) fn hold(&self, installation: &mut Installation, whole: &[u8])
         requires { length whole.now ≤ 2312 }
         ensures { filling installation.new ≡ with_partial (filling installation.old) (Some (part_of self.now.header.now self.now.counter whole.now)) }
     {
@@ -86,8 +86,13 @@ impl Incoming<'_> {
 
 impl<S: Suite> Hearing<'_, S> {
     // Opens a piece that is in turn and joins it to what came before it: how many octets stand in working memory then.
-    pub fn gather(&self, installation: &Installation, working: &mut [u8]) -> Result<usize, Refusal>
-        requires { Ready S.Suite.means self.now.incoming.frame.now (length working.old) }
+    // Kept: fixed memory: the octets begin the lent memory, and what is behind them is lent on, to reckon the code in.
+    pub(crate) fn gather(
+        &self,
+        installation: &Installation,
+        working: &mut [u8],
+    ) -> Result<usize, Refusal>
+        requires { 2560 ≤ length working.old }
         ensures most { IfOk result (λ n. n ≤ 2304 + S.Suite.means.sizes.code) }
         ensures least { IfOk result (λ n. self.now.incoming.header.now.more_fragments ≡ false → S.Suite.means.sizes.code < n) }
         ensures value { Gives (gathered S.Suite.means self.now.incoming.place (filling installation.now) self.now.incoming.header.now self.now.incoming.frame.now self.now.incoming.counter) result working.new }

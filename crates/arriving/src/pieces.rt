@@ -1,5 +1,5 @@
 // The piece of a frame, opened in working memory.
-ghost use Rattle.std.specs.Prelude.{◌≡◌, ◌≤◌, true, length, take, drop, is_ok, IfOk};
+ghost use Rattle.std.specs.Prelude.{◌≡◌, ◌≤◌, length, take, drop, IfOk};
 ghost use Rattle.frame.specs.Headers.{header_length};
 ghost use Rattle.suite.specs.Meaning.{left_by_open};
 ghost use Rattle.ends.specs.Holding.{filling, key_for};
@@ -16,7 +16,7 @@ pub fn key_for<'a, S: Suite>(installation: &'a Installation) -> &'a [u8]
     ensures long { length result.now ≡ S.Suite.means.sizes.key }
 {
     let length = S::sizes().key;
-    &installation.key[0..length]
+    &installation.key[..length]
 }
 
 pub fn body_of(frame: &[u8]) -> &[u8]
@@ -38,21 +38,19 @@ pub fn refusal_at(place: Place, fragment: u8, fault: PieceFault) -> Refusal
 
 impl<S: Suite> Hearing<'_, S> {
     // Opens the piece of a frame whose head was read.
-    pub fn open_piece(
+    pub(crate) fn open_piece(
         &self,
         installation: &Installation,
         working: &mut [u8],
     ) -> Result<usize, PieceFault>
-        requires accepted { is_ok (S.Suite.means.head (drop header_length self.now.incoming.frame.now)) ≡ true }
-        requires least { header_length ≤ length self.now.incoming.frame.now }
-        requires room { length self.now.incoming.frame.now ≤ length working.old }
+        requires { length self.now.incoming.frame.now ≤ length working.old }
         ensures answer { result ≡ piece_length (S.Suite.means.opens (key_for S.Suite.means (filling installation.now)) (take header_length self.now.incoming.frame.now) (drop header_length self.now.incoming.frame.now)) }
         ensures fits { IfOk result (λ size. size ≤ length working.old) }
         ensures memory { working.new ≡ left_by_open S.Suite.means.sizes (drop header_length self.now.incoming.frame.now) (S.Suite.means.opens (key_for S.Suite.means (filling installation.now)) (take header_length self.now.incoming.frame.now) (drop header_length self.now.incoming.frame.now)) working.old }
     {
         let frame = self.incoming.frame;
         let key = key_for::<S>(installation);
-        let header = &frame[0..Header::LENGTH];
+        let header = &frame[..Header::LENGTH];
         let size = self.suite.open(key, header, body_of(frame), working)?;
         Ok(size)
     }

@@ -42,7 +42,7 @@ impl Incoming<'_> {
         header.fragment > 0 && !partial.is_some_and(|partial| continues(partial, header, counter))
     }
 
-    pub fn check_turn(&self, installation: &Installation) -> Result<(), Refusal>
+    pub(crate) fn check_turn(&self, installation: &Installation) -> Result<(), Refusal>
         ensures { result ≡ first (turn_checks self.now.place (filling installation.now) self.now.header.now self.now.counter) tt }
     {
         if self.counter <= installation.replay {
