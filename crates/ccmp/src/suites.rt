@@ -95,16 +95,14 @@ impl Suite for Ccmp {
         if body.len() > LONGEST_BODY {
             return Err(OpenFault::Long);
         }
-        let right = ccm::open(
+        ccm::open(
             &array_at(key, 0),
             &fields::nonce(header, fields::counter(body)),
             &fields::additional(header),
             &body[Self::HEAD_LENGTH..],
             out,
-        );
-        if !right {
-            return Err(OpenFault::Unequal);
-        }
+        )
+        .map_err(|_wrong_tail| OpenFault::Unequal)?;
         Ok(body.len() - Self::HEAD_LENGTH - Self::TAIL_LENGTH)
     }
 }
