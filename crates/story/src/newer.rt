@@ -23,11 +23,12 @@ fn tell_reading(rt: &HostRuntime, header: &[u8; 24], body: &[u8; 34]) -> anyhow:
         key: KEY,
         header,
     };
-    if let Some(size) = tell_opened(rt, receiver, body, &mut piece, words)? {
-        println!(rt;
+    match tell_opened(rt, receiver, body, &mut piece)? {
+        Ok(size) => println!(rt;
             "  the tail agrees, and the reading is: {}",
             Text(&piece[0..size.min(18)])
-        )?;
+        )?,
+        Err(fault) => println!(rt; "  {}", words(fault))?,
     }
     Ok(())
 }

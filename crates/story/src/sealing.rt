@@ -44,10 +44,7 @@ fn tell_message(rt: &HostRuntime, whole: &[u8]) -> anyhow::Result<()> {
     let mut code = [0u8; 8];
     Tkip.code(KEY, Direction::FromLogger, &HEADING, message, &mut code);
     if same(&code, given) {
-        println!(rt;
-            "  the code agrees, and the reading is: {}",
-            Text(message)
-        )?;
+        println!(rt; "  the code agrees, and the reading is: {}", Text(message))?;
     } else {
         println!(rt; "  the code does not agree")?;
     }
@@ -72,10 +69,10 @@ fn tell_reading(rt: &HostRuntime, header: &[u8; 24], body: &[u8; 38]) -> anyhow:
         key: KEY,
         header,
     };
-    if let Some(size) = tell_opened(rt, receiver, body, &mut piece, words)? {
-        tell_message(rt, &piece[0..size.min(26)])?;
+    match tell_opened(rt, receiver, body, &mut piece)? {
+        Ok(size) => tell_message(rt, &piece[0..size.min(26)]),
+        Err(fault) => Ok(println!(rt; "  {}", words(fault))?),
     }
-    Ok(())
 }
 
 pub fn sealing_story(rt: &HostRuntime, header: &[u8; 24]) -> anyhow::Result<()> {

@@ -29,8 +29,7 @@ pub fn tell_header(rt: &HostRuntime, header: &Header) -> anyhow::Result<()> {
     tell_address(rt, "Address 3, the destination", &header.address3)?;
     println!(rt;
         "  sequence number {}, fragment {}",
-        header.sequence,
-        header.fragment
+        header.sequence, header.fragment
     )?;
     Ok(())
 }
