@@ -1,12 +1,12 @@
 // Published frames, whichever the suite.
-ghost use Rattle.std.specs.Prelude.{◌≡◌, ◌+◌, ◌<◌, ◌≤◌, length};
+ghost use Rattle.std.specs.Prelude.{◌≡◌, ◌+◌, ◌<◌, ◌≤◌, T, IfOk, length};
 ghost use Rattle.suite.specs.Meaning.{longest_piece};
 
 use std::alloc::{AllocError, Global};
 use suite::{HeadFault, OpenFault, Suite};
 
 // A piece, and the body that a suite seals it in under a key, a header and a counter, with the key ID 0.
-pub struct Sealing<S: Suite> {
+pub(crate) struct Sealing<S: Suite> {
     pub suite: S,
     pub key: &'static [u8],
     pub header: &'static [u8; 24],
@@ -21,8 +21,10 @@ pub struct Sealing<S: Suite> {
 }
 
 impl<S: Suite> Sealing<S> {
-    // Whether the piece is sealed as published.
-    pub fn seals(&self, alloc: Global) -> Result<bool, AllocError> {
+    // Right only where the suite's definition gives the body.
+    pub(crate) fn seals(&self, alloc: Global) -> Result<bool, AllocError>
+        ensures { IfOk result (λ right. T right → S.Suite.means.seal self.now.key.now self.now.header.now 0 self.now.counter self.now.piece.now ≡ self.now.body.now) }
+    {
         let header = self.header;
         let mut body = vec![in alloc; 0u8; self.body.len()]?;
         self.suite
@@ -44,7 +46,7 @@ impl<S: Suite> Sealing<S> {
     }
 
     // Whether the body opens to the piece.
-    pub fn opens(&self, alloc: Global) -> Result<bool, AllocError> {
+    pub(crate) fn opens(&self, alloc: Global) -> Result<bool, AllocError> {
         let size = self.piece.len();
         let mut piece = vec![in alloc; 0u8; size]?;
         let opened = self.open(self.body, &mut piece);
@@ -52,7 +54,7 @@ impl<S: Suite> Sealing<S> {
     }
 
     // Whether the body is refused with these bits of one octet changed, and nothing let out.
-    pub fn refuses(&self, alloc: Global, place: usize, bits: u8) -> Result<bool, AllocError>
+    pub(crate) fn refuses(&self, alloc: Global, place: usize, bits: u8) -> Result<bool, AllocError>
         requires { place < length self.now.body.now }
     {
         let mut body = Vec::from_slice(alloc, self.body)?;

@@ -1,7 +1,7 @@
 // The published TKIP frame: sealed, opened, its code reckoned, and refused where one bit is changed.
 use crate::sealings::Sealing;
 use crate::tell;
-use frame::Address;
+use frame::{Address, Heading};
 use octets::same;
 use std::io;
 use suite::{Direction, Suite};
@@ -32,18 +32,13 @@ const FRAME: Sealing<Tkip> = Sealing {
 // The message goes from the base, whose address stands last, to a station.
 fn codes() -> bool {
     let mut code = [0u8; 8];
-    let destination = Address::at(HEADER, 4);
-    let source = Address::at(HEADER, 16);
+    let heading = Heading {
+        destination: Address::at(HEADER, 4),
+        source: Address::at(HEADER, 16),
+        priority: 0,
+    };
     let (message, given) = PIECE.split_at(92);
-    Tkip.code(
-        KEY,
-        Direction::FromBase,
-        &destination,
-        &source,
-        0,
-        message,
-        &mut code,
-    );
+    Tkip.code(KEY, Direction::FromBase, &heading, message, &mut code);
     same(&code, given)
 }
 
