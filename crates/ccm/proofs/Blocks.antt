@@ -60,10 +60,6 @@ unfolding chained
 chained_more E x f i =
     ap (chained E x) (map-range_with_len_more f 0 i i (omega arith)) ∙ chained_append E x (map f (range_with_len 0 i)) (f i ∷ [])
 
-pub chained-one : (E : Octets → Octets) (x b : Octets) → chained E x (b ∷ []) ≡ E (xored x b)
-unfolding chained
-chained-one E x b = refl
-
 pub chained_none : (E : Octets → Octets) (x : Octets) → chained E x [] ≡ x
 unfolding chained
 chained_none E x = refl

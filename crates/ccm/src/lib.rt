@@ -50,6 +50,7 @@ struct Mode<'a> {
 }
 
 impl<'a> Mode<'a> {
+    // Kept: the limit stands at seal, at open and here, where it goes into the type, since callers pass the slice itself.
     fn new(key: &[u8; 16], nonce: &'a [u8; 13], additional: &'a [u8]) -> Mode<'a>
         requires { length additional.now ≤ 30 }
         ensures key { round_keys result.cipher ≡ expanded key.now }
@@ -141,39 +142,29 @@ impl<'a> Mode<'a> {
         self.cipher.encrypt_word(mac ^ plain)
     }
 
-    // Puts a text under the key stream, into the start of a memory, and chains the message: the text where it is sealed, and
-    // what comes out where it is opened. Where a text is sealed the two encryptions of a block do not wait for one another;
-    // where it is opened only the chain waits, for the key stream of the same block.
-    fn cover<const OPENING: bool>(&self, start: u128, text: &[u8], out: &mut [u8]) -> u128
-        requires most { length text.now < 65536 }
-        requires room { length text.now ≤ length out.old }
-        ensures memory { out.new ≡ begins (covered (under self.now.cipher) self.now.nonce.now text.now) out.old }
-        ensures mac { word_octets result ≡ chained (under self.now.cipher) (word_octets start) (blocks (plain OPENING (under self.now.cipher) self.now.nonce.now text.now)) }
-    {
-        let (whole, rest) = text.as_chunks::<16>();
-        let mut mac = start;
-        for (i, block) in whole.iter().enumerate() {
-            let block = load(block);
-            let covered = block ^ self.stream((i + 1) as u16);
-            put(out, 16 * i, &store(covered));
-            let plain = if OPENING { covered } else { block };
-            mac = self.cipher.encrypt_word(mac ^ plain);
-        }
-        if rest.is_empty() {
-            return mac;
-        }
-        self.cover_last::<OPENING>(mac, text, out)
-    }
-
-    // Puts a text under the key stream, into the start of a memory, and gives the tail of the message.
-    fn run<const OPENING: bool>(&self, text: &[u8], out: &mut [u8]) -> [u8; 8]
+    // Puts a text under the key stream, into the start of a memory, and gives the tail of the message: of the text where it is
+    // sealed, and of what comes out where it is opened. Where a text is sealed the two encryptions of a block do not wait for
+    // one another; where it is opened only the chain waits, for the key stream of the same block.
+    fn cover<const OPENING: bool>(&self, text: &[u8], out: &mut [u8]) -> [u8; 8]
         requires most { length text.now < 65536 }
         requires room { length text.now ≤ length out.old }
         ensures memory { out.new ≡ begins (covered (under self.now.cipher) self.now.nonce.now text.now) out.old }
         ensures tail { result ≡ ccm_tail (under self.now.cipher) self.now.nonce.now self.now.additional.now (plain OPENING (under self.now.cipher) self.now.nonce.now text.now) }
     {
-        let start = self.begin(text.len() as u16);
-        let mac = self.cover::<OPENING>(start, text, out);
+        let (whole, rest) = text.as_chunks::<16>();
+        let mut mac = self.begin(text.len() as u16);
+        for (i, block) in whole.iter().enumerate() {
+            let block = load(block);
+            let covered = block ^ self.stream((i + 1) as u16);
+            // Kept: written by index, since as_chunks_mut says nothing of what the slice ends as.
+            put(out, 16 * i, &store(covered));
+            let plain = if OPENING { covered } else { block };
+            mac = self.cipher.encrypt_word(mac ^ plain);
+        }
+        if rest.is_empty() {
+            return self.tail(mac);
+        }
+        let mac = self.cover_last::<OPENING>(mac, text, out);
         self.tail(mac)
     }
 }
@@ -187,7 +178,7 @@ pub fn seal(key: &[u8; 16], nonce: &[u8; 13], additional: &[u8], message: &[u8],
     ensures length { length (ccm_seal (aes128 key.now) nonce.now additional.now message.now) ≡ length message.now + 8 }
     ensures memory { out.new ≡ begins (ccm_seal (aes128 key.now) nonce.now additional.now message.now) out.old }
 {
-    let tail = Mode::new(key, nonce, additional).run::<false>(message, out);
+    let tail = Mode::new(key, nonce, additional).cover::<false>(message, out);
     put(out, message.len(), &tail);
 }
 
@@ -209,7 +200,7 @@ pub fn open(
     ensures exactly { OpensExactly (aes128 key.now) nonce.now additional.now sealed.now }
 {
     let (text, tail) = sealed.split_at(sealed.len() - 8);
-    let right = Mode::new(key, nonce, additional).run::<true>(text, out);
+    let right = Mode::new(key, nonce, additional).cover::<true>(text, out);
     if !same(&right, tail) {
         fill(&mut out[..text.len()], 0);
         return Err(WrongTail);

@@ -14,11 +14,11 @@ returns-then-not-same c =
     let old = c.args.out.now in
     let mode = c.new.result in
     let is = c.new.ensures in
-    let k = opened_by (under mode.cipher) mode.nonce.now mode.additional.now sealed _ _ old c.run-right.result c.run-right.new.out c.same.result mode.whole c.split_at.ensures.front c.split_at.ensures.back c.run-right.ensures.memory c.run-right.ensures.tail c.same.ensures in
+    let k = opened_by (under mode.cipher) mode.nonce.now mode.additional.now sealed _ _ old c.cover-right.result c.cover-right.new.out c.same.result mode.whole c.split_at.ensures.front c.split_at.ensures.back c.cover-right.ensures.memory c.cover-right.ensures.tail c.same.ensures in
     let u = uncovered (under mode.cipher) mode.nonce.now sealed in
     let opened : ccm_open (aes128 c.args.key.now) c.args.nonce.now c.args.additional.now sealed ≡ None = sym (λ i. ccm_open (encrypted (is.key i)) (is.nonce i) (is.additional i) sealed) ∙ k.answer ∙ ap (λ t. cond t (Some u) None) c.if-not-same.true in
     let size = c.split_at.ensures.front_len in
-    let zeros = zeroed u old c.run-right.new.out c.fill.new.memory _ (k.size ∙ sym size) k.text c.fill.ensures in
+    let zeros = zeroed u old c.cover-right.new.out c.fill.new.memory _ (k.size ∙ sym size) k.text c.fill.ensures in
     record {
       answer = sym (ap is_some opened);
       memory = zeros ∙ ap (λ n. begins (replicate n 0) old) size ∙ sym (ap (λ o. left_by_ccm_open sealed o old) opened);
@@ -31,7 +31,7 @@ returns c =
     let old = c.args.out.now in
     let mode = c.new.result in
     let is = c.new.ensures in
-    let k = opened_by (under mode.cipher) mode.nonce.now mode.additional.now sealed _ _ old c.run-right.result c.run-right.new.out c.same.result mode.whole c.split_at.ensures.front c.split_at.ensures.back c.run-right.ensures.memory c.run-right.ensures.tail c.same.ensures in
+    let k = opened_by (under mode.cipher) mode.nonce.now mode.additional.now sealed _ _ old c.cover-right.result c.cover-right.new.out c.same.result mode.whole c.split_at.ensures.front c.split_at.ensures.back c.cover-right.ensures.memory c.cover-right.ensures.tail c.same.ensures in
     let u = uncovered (under mode.cipher) mode.nonce.now sealed in
     let opened : ccm_open (aes128 c.args.key.now) c.args.nonce.now c.args.additional.now sealed ≡ Some u = sym (λ i. ccm_open (encrypted (is.key i)) (is.nonce i) (is.additional i) sealed) ∙ k.answer ∙ ap (λ t. cond t (Some u) None) c.if-not-same.false in
     record {

@@ -14,7 +14,7 @@ returns c =
     let old = c.args.out.now in
     let mode = c.new.result in
     let is = c.new.ensures in
-    let memory = sealed_in (under mode.cipher) mode.nonce.now mode.additional.now message old _ _ c.run-tail.result mode.whole c.run-tail.ensures.memory c.run-tail.ensures.tail c.put.ensures in
+    let memory = sealed_in (under mode.cipher) mode.nonce.now mode.additional.now message old _ _ c.cover-tail.result mode.whole c.cover-tail.ensures.memory c.cover-tail.ensures.tail c.put.ensures in
     record {
       length = length-seal (aes128 c.args.key.now) c.args.nonce.now c.args.additional.now message (aes_whole c.args.key.now);
       memory = memory ∙ (λ i. begins (ccm_seal (encrypted (is.key i)) (is.nonce i) (is.additional i) message) old);

@@ -6,12 +6,13 @@ use Rattle.ccm.specs.Ccm.{block_of, count_blocks, covered}
 use Rattle.ccm.specs.Inner.{under, plain}
 use Rattle.ccm.proofs.Blocks.{cut, nothing, something, block_whole, chained_none, chained_next, chained_whole}
 use Rattle.ccm.proofs.Covering.{opens, opened_plain, sealed_plain, length_plain, covered-block, block_next, rest_next, chained_all}
+use Rattle.ccm.proofs.Finishing.{tail_made}
 use Rattle.ccm.proofs.Stream.{length-covered}
 use Rattle.ccm.proofs.Mode.cover.Goals as goal
 use Rattle.ccm.proofs.Mode.cover.Goals.{then-this-ne0, else-this-ne0}
 
 pub loop-i-init : goal.loop-i-init
-loop-i-init g c = (refl, sym (chained_none (under c.args.self.now.cipher) (octets c.args.start)))
+loop-i-init g c = (refl, sym (chained_none (under c.args.self.now.cipher) (octets c.begin-mac.result)))
 
 pub loop-i-preserved : goal.loop-i-preserved
 loop-i-preserved g c =
@@ -30,7 +31,7 @@ loop-i-preserved g c =
       | else-this-ne0 w ↦ ap octets w.plain-is ∙ text ∙ sym (block_whole xs i room) ∙ ap (λ l. block_of l i) (sealed_plain g.row.OPENING E nonce xs w.if-this-ne0.false)
     ] in (
       block_next (covered E nonce xs) c.args.out.now c.loop-i.out c.put.new.memory c.store.result i (omega arith) c.loop-i.invariant.0 c.put.ensures (c.store.ensures ∙ turned),
-      chained_next E (octets c.args.start) (block_of (plain (opens g.row.OPENING) E nonce xs)) i c.loop-i.mac c.if-this-ne0.plain c.encrypt_word-mac.result c.loop-i.invariant.1 chosen c.encrypt_word-mac.ensures,
+      chained_next E (octets c.begin-mac.result) (block_of (plain (opens g.row.OPENING) E nonce xs)) i c.loop-i.mac c.if-this-ne0.plain c.encrypt_word-mac.result c.loop-i.invariant.1 chosen c.encrypt_word-mac.ensures,
     )
 
 pub returns-then-is_empty : goal.returns-then-is_empty
@@ -48,11 +49,11 @@ returns-then-is_empty g c =
     let all : c.loop-i.i ≡ length ys / 16 = omega arith in
     record {
       memory = c.loop-i.invariant.0 ∙ ap (λ l. begins l c.args.out.now) (take_all (16 * c.loop-i.i) (covered E nonce xs) (omega arith));
-      mac = chained_whole E (octets c.args.start) ys rest c.loop-i.i _ all (omega arith) none c.loop-i.invariant.1;
+      tail = tail_made E nonce mode.additional.now ys _ _ c.tail.result _ (sym long) c.begin-mac.ensures (chained_whole E (octets c.begin-mac.result) ys rest c.loop-i.i _ all (omega arith) none c.loop-i.invariant.1) c.tail.ensures;
     }
 
-pub cover_last-requires : goal.cover_last-requires
-cover_last-requires g c =
+pub cover_last-mac-requires : goal.cover_last-mac-requires
+cover_last-mac-requires g c =
     let rest = c.as_chunks.result.1.now in
     let some = something (length rest) _ c.is_empty.ensures c.if-is_empty.false in
     let size = c.as_chunks.ensures.back_len in
@@ -74,6 +75,6 @@ returns g c =
     let long = length_plain (opens g.row.OPENING) E nonce xs mode.whole in
     let count : k + 1 ≡ count_blocks ys = omega arith in
     record {
-      memory = rest_next (covered E nonce xs) c.args.out.now c.loop-i.out c.cover_last.new.out c.loop-i.i k all (omega arith) c.loop-i.invariant.0 c.cover_last.ensures.memory;
-      mac = chained_all E (octets c.args.start) ys c.loop-i.i k _ _ all count c.loop-i.invariant.1 c.cover_last.ensures.mac;
+      memory = rest_next (covered E nonce xs) c.args.out.now c.loop-i.out c.cover_last-mac.new.out c.loop-i.i k all (omega arith) c.loop-i.invariant.0 c.cover_last-mac.ensures.memory;
+      tail = tail_made E nonce mode.additional.now ys _ _ c.tail-2.result _ (sym long) c.begin-mac.ensures (chained_all E (octets c.begin-mac.result) ys c.loop-i.i k _ _ all count c.loop-i.invariant.1 c.cover_last-mac.ensures.mac) c.tail-2.ensures;
     }

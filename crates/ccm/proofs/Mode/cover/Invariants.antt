@@ -10,4 +10,4 @@ use Rattle.ccm.proofs.Mode.cover.Given as goal
 abbrev pub invariant-loop-i : goal.invariant-loop-i
 invariant-loop-i g l =
     (l.out ≡ begins (take (16 * l.i) (covered (under l.self.cipher) l.self.nonce.now l.text)) l.initial.out)
-    × (octets l.mac ≡ chained (under l.self.cipher) (octets l.start) (map (block_of (plain (opens g.row.OPENING) (under l.self.cipher) l.self.nonce.now l.text)) (range_with_len 0 l.i)))
+    × (octets l.mac ≡ chained (under l.self.cipher) (octets l.initial.mac) (map (block_of (plain (opens g.row.OPENING) (under l.self.cipher) l.self.nonce.now l.text)) (range_with_len 0 l.i)))
