@@ -32,6 +32,8 @@ fn go_around<const N: usize, F: Fn(u16) -> u16>(keys: &[u16; N], words: &mut [u1
     ensures { (gives : ℕ → ℕ) → ((x y : ℕ) → x < 2 ^ 16 → F.post give x y → y ≡ gives x) → words.new ≡ around gives keys.now words.old }
 {
     let mut before = words[N - 1];
+    // Kept: the word of the key by its place. Tried with `iter_mut().zip(keys)`, whose proof does not close: once the loop
+    // has lent the words to a zip, nothing is known of what they end as.
     for (n, word) in words.iter_mut().enumerate() {
         *word = word.wrapping_add(give(before ^ keys[n]));
         before = *word;
