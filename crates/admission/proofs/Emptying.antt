@@ -1,5 +1,5 @@
 -- The slots of an end once those of the suites with a code are emptied.
-use Rattle.std.proofs.Common.{◌≡◌, ℕ, zero, suc, ◌+◌, ◌-◌, ◌<◌, ◌≤◌, Bool, true, false, cond, List, ◌++◌, length, get_or, take, drop, replicate, None, Option, sym, refl, ap, ◌∙◌, arith, rules}
+use Rattle.std.proofs.Common.{◌≡◌, ℕ, ◌+◌, ◌-◌, ◌<◌, ◌≤◌, Bool, true, false, cond, List, ◌++◌, length, get_or, take, drop, replicate, None, Option, sym, refl, ap, ◌∙◌, arith, rules}
 use mathlib.Core.Path.{fun_ext}
 use Rattle.std.proofs.lemmas.List.{take-append-drop, get_or_append_left, get_or-append_right}
 use Rattle.std.proofs.lemmas.Bool.Decides.{nat_tests}
@@ -10,6 +10,7 @@ use Rattle.ends.specs.declared.roles.CodedSuites.{CodedSuites}
 use Rattle.ends.specs.Places.{exists}
 use Rattle.ends.specs.Holding.{Filling, filled, table}
 use Rattle.ends.specs.Steps.{emptied}
+use Rattle.ends.proofs.Tables.{none_there, cond_same}
 
 -- what the slots hold, read apart: those of the pairwise places and those of the groups
 abbrev pub tables : List (Option Installation) → List (Option Installation) → Place → Option Filling
@@ -29,15 +30,6 @@ module _ (pairwise group : List (Option Installation)) (long : length pairwise �
       go : (q : Place) → table (pairwise ++ group) q ≡ tables pairwise group q
       go (Pairwise n) = grind (arith, nat_tests, get_or_append_left pairwise group None n)
       go (Group n) = grind (arith, nat_tests, behind n)
-
-none_there : (k n : ℕ) → filled (get_or (replicate k None) n None) ≡ None
-none_there zero n = refl
-none_there (suc k) zero = refl
-none_there (suc k) (suc n) = none_there k n
-
-cond_same : {A : Type 0} (b : Bool) (x : A) → cond b x x ≡ x
-cond_same true x = refl
-cond_same false x = refl
 
 abbrev pub emptied_if : Bool → ℕ → List (Option Installation) → List (Option Installation)
 emptied_if b n slots = cond b (replicate n None) slots

@@ -1,5 +1,6 @@
 // The tables of an end: read, searched and changed.
 ghost use Rattle.std.specs.Prelude.{◌≡◌, ◌<◌, ◌≤◌, true, length, None, IfSome, slice_index_or};
+ghost use Rattle.std.specs.List.{position};
 ghost use Rattle.std.specs.Option.{option_copied};
 ghost use Rattle.ends.specs.Places.{exists, is_base};
 ghost use Rattle.ends.specs.Holding.{held, filled, is_filled, holds, lowest, place_of_peer, with_place};
@@ -21,6 +22,7 @@ impl Role {
 
 impl State {
     // What a new end holds.
+    #[tactic(auto, using(crate::proofs::Tables::all_empty))]
     pub fn new(role: Role, own: Address) -> State
         ensures { held result ≡ new role own }
     {
@@ -69,23 +71,17 @@ impl State {
         ensures value { result ≡ place_of_peer (held self.now) address.now }
         ensures within { IfSome result (λ n. n < 16) }
     {
-        find(&self.slots[..PAIRWISE_PLACES], address)
+        find(&self.slots[..PAIRWISE_PLACES], address).map(|n| n as u8)
     }
 }
 
-// The first slot that holds an address.
-fn find(slots: &[Option<Installation>], address: &Address) -> Option<u8>
+// Where the first slot stands that holds an address.
+fn find(slots: &[Option<Installation>], address: &Address) -> Option<usize>
     requires { length slots.now ≤ 16 }
-    ensures value { result ≡ lowest (length slots.now) (λ n. holds address.now (filled (slice_index_or slots.now n None))) }
+    ensures value { result ≡ position (λ slot. holds address.now (filled slot)) slots.now }
     ensures within { IfSome result (λ n. n < length slots.now) }
 {
-    for (n, slot) in slots.iter().enumerate() {
-        if slot
-            .as_ref()
-            .is_some_and(|installation| installation.is_of(address))
-        {
-            return Some(n as u8);
-        }
-    }
-    None
+    slots.iter().position(|slot| slot
+        .as_ref()
+        .is_some_and(|installation| installation.is_of(address)))
 }
