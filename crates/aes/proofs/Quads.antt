@@ -1,5 +1,9 @@
 -- The octets of words.
-use Rattle.std.proofs.Common.{◌≡◌, ℕ, zero, suc, ◌*◌, ◌/◌, ◌%◌, ◌^◌, ◌<◌, List, [], ◌∷◌, ◌++◌, ap, ◌∙◌, arith}
+use Rattle.std.proofs.Common.{◌≡◌, ℕ, zero, suc, ◌+◌, ◌*◌, ◌/◌, ◌%◌, ◌^◌, ◌<◌, List, [], ◌∷◌, ◌++◌, length, get_or, sym, refl, ap, ◌∙◌, arith}
+use Rattle.std.specs.Int.{w32, w128, to_le_bytes, from_le_bytes}
+use Rattle.std.proofs.Math.Nat.{div-div-eq-div-mul}
+use Rattle.std.proofs.lemmas.Nat.{le_bytes_4}
+use Rattle.octets.proofs.Writing.{spelled}
 use lib.Bits.{bit_xor, xor_shr, xor_mod}
 use Rattle.octets.specs.Octets.{xored}
 use Rattle.aes.specs.Words.{quad, octets, seat}
@@ -76,3 +80,57 @@ quad-seat (suc (suc (suc zero))) v h p =
     let d : v * 16777216 / 16777216 % 256 ≡ v = ap (λ x. x % 256) d' ∙ omega arith in
     ap quad e ∙ (λ i. a i ∷ b i ∷ c i ∷ d i ∷ [])
 quad-seat (suc (suc (suc (suc row)))) v h p = absurd (omega arith)
+
+-- the octets of a word of 128 bits, one by one
+quad-low : (y : ℕ) → quad (y % 4294967296) ≡ quad y
+quad-low y =
+    let p : y % 4294967296 % 256 ≡ y % 256 = omega arith in
+    let q : y % 4294967296 / 256 % 256 ≡ y / 256 % 256 = omega arith in
+    let r : y % 4294967296 / 65536 % 256 ≡ y / 65536 % 256 = omega arith in
+    let s : y % 4294967296 / 16777216 % 256 ≡ y / 16777216 % 256 = omega arith in
+    λ i. p i ∷ q i ∷ r i ∷ s i ∷ []
+
+pub octets-bytes : (x : ℕ) → octets x ≡ to_le_bytes w128 x
+unfolding octets
+octets-bytes x =
+    let next : (k m : ℕ) → x / k / m % 256 ≡ x / (k * m) % 256 = λ k m. ap (λ y. y % 256) (div-div-eq-div-mul x k m) in
+    (λ i. quad-low x i ++ quad-low (x / 2 ^ 32) i ++ quad-low (x / 2 ^ 64) i ++ quad-low (x / 2 ^ 96) i)
+    ∙ (λ i. quad x
+    ++ ((x / 2 ^ 32 % 256) ∷ next (2 ^ 32) 256 i ∷ next (2 ^ 32) 65536 i ∷ next (2 ^ 32) 16777216 i ∷ [])
+    ++ ((x / 2 ^ 64 % 256) ∷ next (2 ^ 64) 256 i ∷ next (2 ^ 64) 65536 i ∷ next (2 ^ 64) 16777216 i ∷ [])
+    ++ ((x / 2 ^ 96 % 256) ∷ next (2 ^ 96) 256 i ∷ next (2 ^ 96) 65536 i ∷ next (2 ^ 96) 16777216 i ∷ []))
+
+-- the octets of four words side by side
+pub joined : (a b c d : ℕ) → a < 4294967296 → b < 4294967296 → c < 4294967296 → d < 4294967296 → octets (a + b * 4294967296 + c * 18446744073709551616 + d * 79228162514264337593543950336) ≡ quad a ++ quad b ++ quad c ++ quad d
+unfolding octets
+joined a b c d pa pb pc pd =
+    let x = a + b * 4294967296 + c * 18446744073709551616 + d * 79228162514264337593543950336 in
+    let p : x % 4294967296 ≡ a = omega arith in
+    let q : x / 4294967296 ≡ b + c * 4294967296 + d * 18446744073709551616 = omega arith in
+    let q' : x / 4294967296 % 4294967296 ≡ b = ap (λ w. w % 4294967296) q ∙ omega arith in
+    let r : x / 18446744073709551616 ≡ c + d * 4294967296 = omega arith in
+    let r' : x / 18446744073709551616 % 4294967296 ≡ c = ap (λ w. w % 4294967296) r ∙ omega arith in
+    let s : x / 79228162514264337593543950336 ≡ d = omega arith in
+    let s' : x / 79228162514264337593543950336 % 4294967296 ≡ d = ap (λ w. w % 4294967296) s ∙ omega arith in
+    λ i. quad (p i) ++ quad (q' i) ++ quad (r' i) ++ quad (s' i)
+
+-- the word that octets write: four of them, and sixteen
+small_four : (a b c d : ℕ) → a < 256 → b < 256 → c < 256 → d < 256 → (i : ℕ) → get_or (a ∷ b ∷ c ∷ d ∷ []) i 0 < 256
+small_four a b c d p q r s zero = p
+small_four a b c d p q r s (suc zero) = q
+small_four a b c d p q r s (suc (suc zero)) = r
+small_four a b c d p q r s (suc (suc (suc zero))) = s
+small_four a b c d p q r s (suc (suc (suc (suc i)))) = omega arith
+
+pub quad-written : (a b c d n : ℕ) → a < 256 → b < 256 → c < 256 → d < 256 → n ≡ from_le_bytes w32 (a ∷ b ∷ c ∷ d ∷ []) → quad n ≡ a ∷ b ∷ c ∷ d ∷ []
+quad-written a b c d n p q r s is = le_bytes_4 (a ∷ b ∷ c ∷ d ∷ []) n refl (small_four a b c d p q r s) is
+
+pub octets-written : (xs : List ℕ) (n : ℕ) → length xs ≡ 16 → ((i : ℕ) → get_or xs i 0 < 256) → n ≡ from_le_bytes w128 xs → octets n ≡ xs
+octets-written xs n long small is =
+    let at : ℕ → ℕ = λ i. get_or xs i 0 in
+    let word : ℕ → ℕ = λ k. at k + at (k + 1) * 256 + at (k + 2) * 65536 + at (k + 3) * 16777216 in
+    let below : (k : ℕ) → word k < 4294967296 = λ k. omega (arith, small k, small (k + 1), small (k + 2), small (k + 3)) in
+    let four = λ (k : ℕ). quad-written (at k) (at (k + 1)) (at (k + 2)) (at (k + 3)) (word k) (small k) (small (k + 1)) (small (k + 2)) (small (k + 3)) refl in
+    let sum : n ≡ word 0 + word 4 * 4294967296 + word 8 * 18446744073709551616 + word 12 * 79228162514264337593543950336 = omega arith in
+    ap octets sum ∙ joined _ _ _ _ (below 0) (below 4) (below 8) (below 12)
+    ∙ (λ i. four 0 i ++ four 4 i ++ four 8 i ++ four 12 i) ∙ sym (spelled 16 xs long)

@@ -43,6 +43,24 @@ pub record Added (gives : ℕ → ℕ → List ℕ) (t : State) (w : ℕ) (r : S
   pub third : quad r.c ≡ xored (quad t.d) (gives 1 (w / 256 % 256))
   pub fourth : quad r.d ≡ xored (quad t.a) (gives 0 (w % 256))
 
+-- what the octet of the word w in row j gives
+abbrev pub given : (ℕ → ℕ → List ℕ) → ℕ → ℕ → List ℕ
+given gives zero w = gives 0 (w % 256)
+given gives (suc zero) w = gives 1 (w / 256 % 256)
+given gives (suc (suc zero)) w = gives 2 (w / 65536 % 256)
+given gives (suc (suc (suc j))) w = gives 3 (w / 16777216 % 256)
+
+-- what the octets on a diagonal give, one of each of four words, and a word of the key
+abbrev pub diagonal : (ℕ → ℕ → List ℕ) → ℕ → ℕ → ℕ → ℕ → ℕ → List ℕ
+diagonal gives key a b c d =
+    xored (xored (xored (xored (given gives 0 a) (given gives 1 b)) (given gives 2 c)) (given gives 3 d)) (quad key)
+
+-- a round of the state s under the key k, where the octet x in row j gives `gives j x` to its column
+unfoldable pub round_by : (ℕ → ℕ → List ℕ) → State → State → List ℕ
+round_by gives k s =
+    diagonal gives k.a s.a s.b s.c s.d ++ diagonal gives k.b s.b s.c s.d s.a
+    ++ diagonal gives k.c s.c s.d s.a s.b ++ diagonal gives k.d s.d s.a s.b s.c
+
 -- the round keys that an expanded key holds
 unfoldable pub round_keys : Aes128 → List (List ℕ)
 round_keys s = map held s.keys

@@ -4,11 +4,12 @@
 #![tactic(auto)]
 
 ghost use Rattle.std.specs.Prelude.{◌≡◌, ◌<◌, [], length, slice_index_or};
-ghost use Rattle.aes.specs.Aes.{rcon, next_key, expanded, encrypted, aes128};
+ghost use Rattle.aes.specs.Aes.{next_key, expanded, encrypted, aes128};
 ghost use Rattle.aes.specs.Words.{octets, held, round_keys};
 
 use sbox::substitute;
-use state::{State, word};
+use state::State;
+use ttable::{Mixing, Placing};
 
 mod state;
 mod ttable;
@@ -34,34 +35,30 @@ pub fn load(block: &[u8]) -> u128
     requires { length block.now ≡ 16 }
     ensures { octets result ≡ block.now }
 {
-    State::from_octets(block).to_word()
+    let mut octets = [0u8; 16];
+    octets.copy_from_slice(block);
+    u128::from_le_bytes(octets)
 }
 
 // The sixteen octets of a block.
 pub fn store(block: u128) -> [u8; 16]
     ensures { result ≡ octets block }
 {
-    State::from_word(block).to_octets()
-}
-
-fn round_constant(n: usize) -> u8
-    requires { n < 10 }
-    ensures { result ≡ rcon n }
-{
-    RCON[n]
+    State::from(block).into()
 }
 
 // The round key after `key`, by the round constant `x`.
 fn next_key(x: u8, key: State) -> State
     ensures { held result ≡ next_key x (held key) }
 {
-    let turned = word(
-        substitute((key.d / 256 % 256) as u8),
-        substitute((key.d / 65536 % 256) as u8),
-        substitute((key.d / 16777216 % 256) as u8),
-        substitute((key.d % 256) as u8),
-    );
-    let a = key.a ^ (turned ^ x as u32);
+    let [first, second, third, fourth] = key.d.to_le_bytes();
+    let turned = u32::from_le_bytes([
+        substitute(second),
+        substitute(third),
+        substitute(fourth),
+        substitute(first),
+    ]);
+    let a = key.a ^ (turned ^ u32::from(x));
     let b = key.b ^ a;
     let c = key.c ^ b;
     let d = key.d ^ c;
@@ -72,19 +69,11 @@ impl Aes128 {
     pub fn expand(key: &[u8; 16]) -> Aes128
         ensures { round_keys result ≡ expanded key.now }
     {
-        let mut keys = [State::from_octets(key); 11];
-        for n in 0..10usize {
-            let next = next_key(round_constant(n), keys[n]);
-            keys[n + 1] = next;
+        let mut keys = [State::from(load(key)); 11];
+        for (n, x) in RCON.iter().enumerate() {
+            keys[n + 1] = next_key(*x, keys[n]);
         }
         Aes128 { keys }
-    }
-
-    fn key(&self, n: usize) -> State
-        requires { n < 11 }
-        ensures { held result ≡ slice_index_or (round_keys self.now) n [] }
-    {
-        self.keys[n]
     }
 
     // The sixteen octets of round key `n`.
@@ -92,45 +81,26 @@ impl Aes128 {
         requires { n < 11 }
         ensures { result ≡ slice_index_or (round_keys self.now) n [] }
     {
-        self.key(n).to_octets()
+        self.keys[n].into()
     }
 
     // A block as a word: what a mode of operation calls, since words go by registers.
     pub fn encrypt_word(&self, block: u128) -> u128
         ensures { octets result ≡ encrypted (round_keys self.now) (octets block) }
     {
-        let mut s = State::from_word(block).xor(self.key(0));
-        for n in 0..9usize {
-            let t = self.key(n + 1).mix(s.a).mix(s.b).mix(s.c).mix(s.d);
-            s = t;
+        let mut s = State::from(block) ^ self.keys[0];
+        for key in &self.keys[1..10] {
+            s = key.round::<Mixing>(s);
         }
-        self.key(10)
-            .place(s.a)
-            .place(s.b)
-            .place(s.c)
-            .place(s.d)
-            .to_word()
+        self.keys[10].round::<Placing>(s).into()
     }
 
-    // Two blocks side by side, which takes less time than one after the other.
+    // Two blocks.
     pub fn encrypt_two(&self, x: u128, y: u128) -> (u128, u128)
         ensures first { octets result.0 ≡ encrypted (round_keys self.now) (octets x) }
         ensures second { octets result.1 ≡ encrypted (round_keys self.now) (octets y) }
     {
-        let key = self.key(0);
-        let mut s = State::from_word(x).xor(key);
-        let mut t = State::from_word(y).xor(key);
-        for n in 0..9usize {
-            let key = self.key(n + 1);
-            let u = key.mix(s.a).mix(s.b).mix(s.c).mix(s.d);
-            let v = key.mix(t.a).mix(t.b).mix(t.c).mix(t.d);
-            s = u;
-            t = v;
-        }
-        let key = self.key(10);
-        let u = key.place(s.a).place(s.b).place(s.c).place(s.d);
-        let v = key.place(t.a).place(t.b).place(t.c).place(t.d);
-        (u.to_word(), v.to_word())
+        (self.encrypt_word(x), self.encrypt_word(y))
     }
 
     // A block as its octets.

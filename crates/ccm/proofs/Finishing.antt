@@ -1,7 +1,7 @@
 -- The tail from the parts of the CBC-MAC, and what seal and open leave.
 use Rattle.std.proofs.Common.{◌≡◌, ℕ, ◌-◌, Bool, cond, ◌∷◌, ◌++◌, length, take, drop, replicate, Some, None, sym, ap, ◌∙◌, arith}
 use Rattle.std.specs.Str.{bytes_eq}
-use Rattle.std.proofs.lemmas.List.{length-replicate, length-take-le, take_at, take_rest, drop_at}
+use Rattle.std.proofs.lemmas.List.{length-replicate, length-take-le, take_at, drop_at}
 use Rattle.octets.specs.Octets.{Octets, written, begins, xored}
 use Rattle.octets.proofs.Writing.{begun_more}
 use Rattle.ccm.specs.Ccm.{numbered, first_flags, measured, blocks, counter_block, chained, cbc_mac, covered, uncovered, ccm_tail, ccm_seal, ccm_open}
@@ -29,21 +29,13 @@ length-uncovered : (E : Octets → Octets) (nonce sealed : Octets) → WholeBloc
 length-uncovered E nonce sealed whole =
     length-covered E nonce (take (length sealed - 8) sealed) whole ∙ length-take-le (length sealed - 8) sealed (omega arith)
 
--- what open answers, by the comparison of the tails
-decided : (E : Octets → Octets) (nonce additional sealed end : Octets) (r : Bool) → end ≡ ccm_tail E nonce additional (uncovered E nonce sealed) → r ≡ bytes_eq end (take (length sealed - (length sealed - 8)) (drop (length sealed - 8) sealed)) → ccm_open E nonce additional sealed ≡ cond r (Some (uncovered E nonce sealed)) None
-unfolding ccm_open
-decided E nonce additional sealed end r is same =
-    let rest = take_rest sealed (length sealed - 8) in
-    let test : r ≡ bytes_eq (ccm_tail E nonce additional (uncovered E nonce sealed)) (drop (length sealed - 8) sealed) = same ∙ (λ i. bytes_eq (is i) (rest i)) in
-    ap (λ t. cond t (Some (uncovered E nonce sealed)) None) (sym test)
-
 -- zeros over what was written
-pub zeroed : (u old out zeros : Octets) (k n : ℕ) → length u ≡ k → k ≡ n → out ≡ begins u old → zeros ≡ replicate (length (take k out)) 0 → zeros ++ drop k out ≡ begins (replicate n 0) old
-zeroed u old out zeros k n long same was are =
-    let front : take k out ≡ u = ap (take k) was ∙ take_at u (drop (length u) old) k long in
-    let back : drop k out ≡ drop (length u) old = ap (drop k) was ∙ drop_at u (drop (length u) old) k long in
-    let count : length (take k out) ≡ n = ap length front ∙ long ∙ same in
-    let rest : length u ≡ length (replicate n 0) = long ∙ same ∙ sym (length-replicate n 0) in
+pub zeroed : (u old out zeros : Octets) (n : ℕ) → length u ≡ n → out ≡ begins u old → zeros ≡ replicate (length (take n out)) 0 → zeros ++ drop n out ≡ begins (replicate n 0) old
+zeroed u old out zeros n long was are =
+    let front : take n out ≡ u = ap (take n) was ∙ take_at u (drop (length u) old) n long in
+    let back : drop n out ≡ drop (length u) old = ap (drop n) was ∙ drop_at u (drop (length u) old) n long in
+    let count : length (take n out) ≡ n = ap length front ∙ long in
+    let rest : length u ≡ length (replicate n 0) = long ∙ sym (length-replicate n 0) in
     (λ i. (are ∙ ap (λ m. replicate m 0) count) i ++ (back ∙ ap (λ m. drop m old) rest) i)
 
 -- what is known of an opening once the tails are compared: r says whether they are the same
@@ -52,14 +44,13 @@ pub record Opened (E : Octets → Octets) (nonce additional sealed old out : Oct
   pub size : length (uncovered E nonce sealed) ≡ length sealed - 8
   pub answer : ccm_open E nonce additional sealed ≡ cond r (Some (uncovered E nonce sealed)) None
 
-pub opened_by : (E : Octets → Octets) (nonce additional sealed old start mac end out : Octets) (r : Bool) → WholeBlocks E → start ≡ cbc_mac E (numbered (first_flags additional) nonce (length sealed - 8) ∷ blocks (measured additional)) → out ≡ begins (covered E nonce (take (length sealed - 8 - 0) sealed)) old → mac ≡ chained E start (blocks (covered E nonce (take (length sealed - 8 - 0) sealed))) → end ≡ take 8 (xored mac (E (counter_block nonce 0))) → r ≡ bytes_eq end (take (length sealed - (length sealed - 8)) (drop (length sealed - 8) sealed)) → Opened E nonce additional sealed old out r
-opened_by E nonce additional sealed old start mac end out r whole begun memory chain made same =
-    let n : length sealed - 8 - 0 ≡ length sealed - 8 = omega arith in
-    let cut : take (length sealed - 8 - 0) sealed ≡ take (length sealed - 8) sealed = ap (λ k. take k sealed) n in
-    let long = length-uncovered E nonce sealed whole in
-    let tail = tail_made E nonce additional (uncovered E nonce sealed) start mac end (length sealed - 8) (sym long) begun (chain ∙ ap (λ l. chained E start (blocks (covered E nonce l))) cut) made in
+pub opened_by : (E : Octets → Octets) (nonce additional sealed text rest old end out : Octets) (r : Bool) → WholeBlocks E → text ≡ take (length sealed - 8) sealed → rest ≡ drop (length sealed - 8) sealed → out ≡ begins (covered E nonce text) old → end ≡ ccm_tail E nonce additional (covered E nonce text) → r ≡ bytes_eq end rest → Opened E nonce additional sealed old out r
+unfolding ccm_open
+opened_by E nonce additional sealed text rest old end out r whole front back memory tail same =
+    let u = uncovered E nonce sealed in
+    let right = tail ∙ ap (λ l. ccm_tail E nonce additional (covered E nonce l)) front in
     record {
-      text = memory ∙ ap (λ l. begins (covered E nonce l) old) cut;
-      size = long;
-      answer = decided E nonce additional sealed end r tail same;
+      text = memory ∙ ap (λ l. begins (covered E nonce l) old) front;
+      size = length-uncovered E nonce sealed whole;
+      answer = ap (λ t. cond t (Some u) None) (sym (same ∙ (λ i. bytes_eq (right i) (back i))));
     }

@@ -1,11 +1,12 @@
 -- The octets of words of 128 bits.
-use Rattle.std.proofs.Common.{◌≡◌, ℕ, suc, ◌+◌, ◌*◌, ◌/◌, ◌%◌, ◌^◌, ◌<◌, [], ◌∷◌, ◌++◌, length, get_or, take, replicate, sym, refl, ap, ◌∙◌, arith}
+use Rattle.std.proofs.Common.{◌≡◌, ℕ, suc, ◌+◌, ◌*◌, ◌/◌, ◌%◌, ◌^◌, ◌<◌, [], ◌∷◌, ◌++◌, length, drop, replicate, sym, refl, ap, ◌∙◌, arith, append-nil, length-append}
 use lib.Bits.{bit_xor}
 use Rattle.std.proofs.lemmas.Nat.{shl-shr}
-use Rattle.octets.specs.Octets.{Octets, big_octets, xored}
+use Rattle.octets.specs.Octets.{Octets, big_octets, written, xored}
+use Rattle.octets.proofs.Writing.{written_on}
 use Rattle.aes.specs.Words.{quad, octets}
 use Rattle.aes.proofs.Quads.{octets-xor}
-use Rattle.ccm.specs.Ccm.{counter_block}
+use Rattle.ccm.specs.Ccm.{numbered, counter_block}
 use Rattle.octets.proofs.Words.{xored-append, xored_zeros, zeros_xored}
 
 pub length-octets : (x : ℕ) → length (octets x) ≡ 16
@@ -34,20 +35,32 @@ last_two i y small e =
     let last : y * 65536 / 16777216 % 256 ≡ i % 256 = ap (λ w. w % 256) s ∙ omega arith in
     (λ j. quad (a j) ++ quad (b j) ++ quad (c j) ++ quad (d j)) ∙ (λ j. replicate 12 0 ++ (low j ∷ next j ∷ high j ∷ last j ∷ []))
 
+-- the nonce of a counter block that a word holds has 13 octets
+nonce_length : (nonce : Octets) (base i : ℕ) → octets base ≡ counter_block nonce i → length nonce ≡ 13
+nonce_length nonce base i e =
+    omega (arith, ap length e, length-octets base, length-append nonce (big_octets 2 i))
+
 -- the number of a counter block, added to block 0
-pub counted : (nonce : Octets) (base i y : ℕ) → length nonce ≡ 13 → octets base ≡ counter_block nonce 0 → i < 65536 → y ≡ i % 256 * 256 + i / 256 % 256 → octets (bit_xor base ((y * 2 ^ 112) % 2 ^ 128)) ≡ counter_block nonce i
-counted nonce base i y long zero small e =
+pub counted : (nonce : Octets) (base i y : ℕ) → octets base ≡ counter_block nonce 0 → i < 65536 → y ≡ i % 256 * 256 + i / 256 % 256 → octets (bit_xor base ((y * 2 ^ 112) % 2 ^ 128)) ≡ counter_block nonce i
+counted nonce base i y zero small e =
+    let long = nonce_length nonce base 0 zero in
     let front = ap (λ n. xored (1 ∷ nonce) (0 ∷ replicate n 0)) (sym long) ∙ xored_zeros (1 ∷ nonce) in
     octets-xor base ((y * 2 ^ 112) % 2 ^ 128)
     ∙ (λ j. xored (zero j) (last_two i y small e j))
     ∙ xored-append (1 ∷ nonce) (0 ∷ 0 ∷ []) (replicate 14 0) (big_octets 2 i) (ap suc long)
     ∙ ap (λ l. l ++ big_octets 2 i) front
 
+-- the nonce and the number, written after the flags
+pub numbered_written : (flags : ℕ) (nonce : Octets) (n : ℕ) → length nonce ≡ 13 → written 14 (big_octets 2 n) (written 1 nonce (replicate 16 flags)) ≡ numbered flags nonce n
+numbered_written flags nonce n long =
+    let at : 14 ≡ 1 + length nonce = omega arith in
+    let both = length-append nonce (big_octets 2 n) in
+    let all : 1 + length (nonce ++ big_octets 2 n) ≡ 16 = omega arith in
+    ap (λ k. written k (big_octets 2 n) (written 1 nonce (replicate 16 flags))) at
+    ∙ written_on 1 nonce (big_octets 2 n) (replicate 16 flags) (omega arith)
+    ∙ ap (λ k. flags ∷ ((nonce ++ big_octets 2 n) ++ drop k (replicate 16 flags))) all
+    ∙ ap (λ l. flags ∷ l) (append-nil (nonce ++ big_octets 2 n))
+
 pub zeros_added : (x : ℕ) → xored (replicate 16 0) (octets x) ≡ octets x
 unfolding octets
 zeros_added x = zeros_xored (octets x)
-
--- the first eight octets of a word, one by one
-pub eight : (w : Octets) (x : ℕ) → w ≡ octets x → get_or w 0 0 ∷ get_or w 1 0 ∷ get_or w 2 0 ∷ get_or w 3 0 ∷ get_or w 4 0 ∷ get_or w 5 0 ∷ get_or w 6 0 ∷ get_or w 7 0 ∷ [] ≡ take 8 (octets x)
-unfolding octets
-eight w x e = ap (λ l. get_or l 0 0 ∷ get_or l 1 0 ∷ get_or l 2 0 ∷ get_or l 3 0 ∷ get_or l 4 0 ∷ get_or l 5 0 ∷ get_or l 6 0 ∷ get_or l 7 0 ∷ []) e

@@ -2,7 +2,7 @@
 use Rattle.std.proofs.Common.{◌≡◌, ℕ, zero, suc, ◌+◌, ◌*◌, ◌^◌, List, [], ◌∷◌, ◌++◌, length, take, drop, sym, refl, ap, ◌∙◌, arith}
 use lib.Bits.{bit_xor, xor_assoc, xor_comm, xor_zero_r}
 use Rattle.std.specs.Simd.{first_chunks}
-use Rattle.std.specs.List.{flat_map}
+use Rattle.std.specs.List.{flat_map, fold}
 use Rattle.std.proofs.lemmas.List.{append_assoc, drop-drop, take-append-drop}
 use Rattle.octets.specs.Octets.{Octets, AreOctets, little}
 use Rattle.crc32.specs.Crc32.{steps, taken, remainder}
@@ -11,6 +11,11 @@ use Rattle.crc32.proofs.Division.{steps_more, eight_steps, octet-below}
 pub remainder-append : (c : ℕ) (xs ys : List ℕ) → remainder c (xs ++ ys) ≡ remainder (remainder c xs) ys
 remainder-append c [] ys = refl
 remainder-append c (x ∷ xs) ys = remainder-append (taken c x) xs ys
+
+-- lists of octets, one after the other
+pub remainder_joined : (c : ℕ) (lists : List (List ℕ)) → fold remainder c lists ≡ remainder c (flat_map (λ octets. octets) lists)
+remainder_joined c [] = refl
+remainder_joined c (xs ∷ lists) = remainder_joined (remainder c xs) lists ∙ sym (remainder-append c xs (flat_map (λ octets. octets) lists))
 
 -- the first k pieces of n octets, and what is behind them
 pub pieces_whole : (n k : ℕ) (xs : List ℕ) → flat_map (λ piece. piece) (first_chunks n k xs) ++ drop (k * n) xs ≡ xs

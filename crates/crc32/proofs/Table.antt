@@ -1,15 +1,14 @@
 -- The rule of the eight tables, proved at all of their entries by one test that antt computes: an entry is what
--- eight steps make of the octet, in the first table, or of the entry 256 places before it.
-use Rattle.std.proofs.Common.{◌≡◌, ℕ, zero, suc, ◌+◌, ◌-◌, ◌*◌, ◌<◌, Bool, true, false, T, eqb, List, [], ◌∷◌, ◌++◌, length, get_or, sym, ap, ◌∙◌, le_of_suc-le-suc, not-suc-le-zero, arith, eqb→eq}
+-- eight steps make of the octet, in the first table, or of the entry at its place in the table before.
+use Rattle.std.proofs.Common.{◌≡◌, ℕ, zero, suc, ◌+◌, ◌*◌, ◌<◌, Bool, true, false, T, eqb, List, [], ◌∷◌, length, get_or, sym, ap, ◌∙◌, le_of_suc-le-suc, not-suc-le-zero, arith, eqb→eq}
 use Rattle.std.specs.List.{range_with_len}
-use Rattle.std.proofs.lemmas.List.FromFn.{get_or-range_with_len, length-range_with_len}
-use Rattle.std.proofs.lemmas.List.{get_or_append_left, get_or-append_right}
+use Rattle.std.proofs.lemmas.List.FromFn.{get_or-range_with_len}
 use Rattle.octets.proofs.Tables.{both, both_left, both_right}
 use Rattle.crc32.specs.Crc32.{steps}
 use Rattle.crc32.proofs.Division.{steps_more}
 
 -- each entry of xs is what eight steps make of the entry of ys at its place
-abbrev pub follows : List ℕ → List ℕ → Bool
+abbrev follows : List ℕ → List ℕ → Bool
 follows ys [] = true
 follows [] (x ∷ xs) = false
 follows (y ∷ ys) (x ∷ xs) = both (eqb x (steps 8 y)) (follows ys xs)
@@ -20,30 +19,36 @@ at [] (x ∷ xs) t k h = absurd t
 at (y ∷ ys) (x ∷ xs) t zero h = eqb→eq x (steps 8 y) (both_left (eqb x (steps 8 y)) (follows ys xs) t)
 at (y ∷ ys) (x ∷ xs) t (suc k) h = at ys xs (both_right (eqb x (steps 8 y)) (follows ys xs) t) k (le_of_suc-le-suc h)
 
+-- tables of 256 entries, each of which follows the one before, and the first follows ys
+abbrev each_follows : List ℕ → List (List ℕ) → Bool
+each_follows ys [] = true
+each_follows ys (xs ∷ tables) = both (both (eqb (length xs) 256) (follows ys xs)) (each_follows xs tables)
+
+-- an entry of table `rank`, from that of ys
+entry_of : (ys : List ℕ) (tables : List (List ℕ)) → T (each_follows ys tables) → (rank n : ℕ) → rank < length tables → n < 256 → get_or (get_or tables rank []) n 0 ≡ steps (8 * (rank + 1)) (get_or ys n 0)
+entry_of ys [] t rank n r l = absurd (not-suc-le-zero r)
+entry_of ys (xs ∷ tables) t rank n r l =
+    let here = both_left (both (eqb (length xs) 256) (follows ys xs)) (each_follows xs tables) t in
+    let size : length xs ≡ 256 = eqb→eq (length xs) 256 (both_left (eqb (length xs) 256) (follows ys xs) here) in
+    let first = at ys xs (both_right (eqb (length xs) 256) (follows ys xs) here) n (omega arith) in
+    elim rank as (λ (k : ℕ). k < length (xs ∷ tables) → get_or (get_or (xs ∷ tables) k []) n 0 ≡ steps (8 * (k + 1)) (get_or ys n 0)) [
+      | zero ↦ λ _. first
+      | suc k ↦ λ h.
+          let more : 8 + 8 * (k + 1) ≡ 8 * (suc k + 1) = omega arith in
+          entry_of xs tables (both_right (both (eqb (length xs) 256) (follows ys xs)) (each_follows xs tables) t) k n (le_of_suc-le-suc h) l
+          ∙ ap (steps (8 * (k + 1))) first ∙ sym (steps_more 8 (8 * (k + 1)) (get_or ys n 0)) ∙ ap (λ m. steps m (get_or ys n 0)) more
+    ] r
+
 abbrev octets : List ℕ
 octets = range_with_len 0 256
 
--- eight tables, each of which follows the one before, and the first the octets
-abbrev pub right : List ℕ → Bool
-right xs = both (eqb (length xs) 2048) (follows (octets ++ xs) xs)
+-- eight tables, the first of which follows the octets
+abbrev pub right : List (List ℕ) → Bool
+right tables = both (eqb (length tables) 8) (each_follows octets tables)
 
--- the entry of a place, from that of the place before
-entry_of : (xs : List ℕ) → T (follows (octets ++ xs) xs) → (rank n : ℕ) → n < 256 → 256 * rank + n < length xs → get_or xs (256 * rank + n) 0 ≡ steps (8 * (rank + 1)) n
-entry_of xs t zero n l h =
-    let place : 256 * 0 + n ≡ n = omega arith in
-    let octet : 0 + n ≡ n = omega arith in
-    let first : get_or (octets ++ xs) n 0 ≡ n =
-    get_or_append_left octets xs 0 n (omega (arith, length-range_with_len 0 256)) ∙ get_or-range_with_len 0 256 n 0 l ∙ octet in
-    at (octets ++ xs) xs t (256 * 0 + n) h ∙ ap (λ k. steps 8 (get_or (octets ++ xs) k 0)) place ∙ ap (steps 8) first
-entry_of xs t (suc rank) n l h =
-    let before : 256 * suc rank + n - 256 ≡ 256 * rank + n = omega arith in
-    let earlier : get_or (octets ++ xs) (256 * suc rank + n) 0 ≡ get_or xs (256 * rank + n) 0 =
-    get_or-append_right octets xs 256 (256 * suc rank + n) 0 (length-range_with_len 0 256) (omega arith) ∙ ap (λ k. get_or xs k 0) before in
-    let more : 8 * (rank + 1) + 8 ≡ 8 * (suc rank + 1) = omega arith in
-    at (octets ++ xs) xs t (256 * suc rank + n) h ∙ ap (steps 8) (earlier ∙ entry_of xs t rank n l (omega arith))
-    ∙ sym (steps_more (8 * (rank + 1)) 8 n) ∙ ap (λ m. steps m n) more
-
-pub rule : (xs : List ℕ) → T (right xs) → (rank n : ℕ) → rank < 8 → n < 256 → get_or xs (256 * rank + n) 0 ≡ steps (8 * (rank + 1)) n
-rule xs t rank n r l =
-    let size : length xs ≡ 2048 = eqb→eq (length xs) 2048 (both_left (eqb (length xs) 2048) (follows (octets ++ xs) xs) t) in
-    entry_of xs (both_right (eqb (length xs) 2048) (follows (octets ++ xs) xs) t) rank n l (omega arith)
+pub rule : (tables : List (List ℕ)) → T (right tables) → (rank n : ℕ) → rank < 8 → n < 256 → get_or (get_or tables rank []) n 0 ≡ steps (8 * (rank + 1)) n
+rule tables t rank n r l =
+    let size : length tables ≡ 8 = eqb→eq (length tables) 8 (both_left (eqb (length tables) 8) (each_follows octets tables) t) in
+    let octet : get_or octets n 0 ≡ n = omega (arith, get_or-range_with_len 0 256 n 0 l) in
+    entry_of octets tables (both_right (eqb (length tables) 8) (each_follows octets tables) t) rank n (omega arith) l
+    ∙ ap (steps (8 * (rank + 1))) octet

@@ -1,6 +1,7 @@
 -- The CRC-32 of IEEE 802.3: the remainder of the octets, each taken from its least significant bit on,
 -- divided by the polynomial 0xEDB88320 (the coefficient of the highest power is its least significant bit).
-use Rattle.std.specs.Prelude.{ℕ, zero, suc, ◌*◌, ◌/◌, ◌%◌, List, [], ◌∷◌, bit_xor}
+use Rattle.std.specs.Prelude.{ℕ, zero, suc, ◌*◌, ◌/◌, ◌%◌, List, bit_xor}
+use Rattle.std.specs.List.{fold}
 use Rattle.octets.specs.Octets.{little_octets}
 
 -- One bit of the division: the lowest bit is shifted out, and where it was 1 the polynomial is subtracted.
@@ -18,8 +19,7 @@ taken c b = steps 8 (bit_xor c b)
 
 -- the octets one after the other
 abbrev pub remainder : ℕ → List ℕ → ℕ
-remainder c [] = c
-remainder c (b ∷ bs) = remainder (taken c b) bs
+remainder c octets = fold taken c octets
 
 -- The remainder starts as 32 ones, and its complement is the CRC-32.
 abbrev pub crc32 : List ℕ → ℕ

@@ -20,11 +20,7 @@ fn take(c: u32, octet: u8) -> u32
 fn take_octets(start: u32, octets: &[u8]) -> u32
     ensures { result ≡ remainder start octets.now }
 {
-    let mut c = start;
-    for octet in octets {
-        c = take(c, *octet);
-    }
-    c
+    octets.iter().fold(start, |c, octet| take(c, *octet))
 }
 
 // What 64 steps make of a word: each of its octets has its own table.
@@ -53,11 +49,7 @@ fn take_eight(c: u32, octets: &[u8; 8]) -> u32
 fn take_eights(start: u32, eights: &[[u8; 8]]) -> u32
     ensures { result ≡ remainder start (flat_map (λ eight. eight) eights.now) }
 {
-    let mut c = start;
-    for eight in eights {
-        c = take_eight(c, eight);
-    }
-    c
+    eights.iter().fold(start, take_eight)
 }
 
 // The CRC-32 of the octets.

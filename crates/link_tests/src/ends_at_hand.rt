@@ -16,7 +16,9 @@ pub const GROUP: Address = Address {
     octets: [0x03, 0, 0x5e, 0, 0, 0x01],
 };
 
-pub const KEY: [u8; 32] = *b"temporal key 16.fr.base.fr.loggr";
+pub const TKIP_KEY: &[u8; 32] = b"temporal key 16.fr.base.fr.loggr";
+
+pub const CCMP_KEY: &[u8; 16] = b"temporal key 16.";
 
 pub const PAIRWISE: Place = Place::Pairwise(0);
 
@@ -25,15 +27,15 @@ pub const NO_SPAN: Span = Span {
     length: 0,
 };
 
-// A logger with its base in pairwise place 0, under the first octets of the key.
+// A logger with its base in pairwise place 0, under this key.
 pub fn logger<P: Suite + Drop, G: Suite + Drop>(
     pairwise: P,
     group: G,
-    key_length: usize,
+    key: &[u8],
 ) -> Result<LinkEnd<P, G>, Refusal> {
     let mut end = LinkEnd::blank(pairwise, group);
     end.make(Role::Logger, &LOGGER)?;
-    end.install(PAIRWISE, &KEY[0..key_length.min(32)], &BASE, 0, 0)?;
+    end.install(PAIRWISE, key, &BASE, 0, 0)?;
     Ok(end)
 }
 
@@ -48,10 +50,7 @@ pub fn request(piece_length: usize, time: u64) -> Request {
     }
 }
 
-// An answer by its number, where it is refused.
+// An answer with a refusal by its number: the tests hold the numbers that docs/REFUSALS.md promises.
 pub fn numbered<T: Drop>(answer: Result<T, Refusal>) -> Result<T, u8> {
-    match answer {
-        Ok(x) => Ok(x),
-        Err(refusal) => Err(refusal.number()),
-    }
+    answer.map_err(|refusal| refusal.number())
 }

@@ -1,5 +1,5 @@
 // Make, install and remove.
-use crate::ends_at_hand::{BASE, GROUP, KEY, LOGGER, numbered};
+use crate::ends_at_hand::{BASE, CCMP_KEY, GROUP, LOGGER, TKIP_KEY, numbered};
 use ccmp::Ccmp;
 use ends::{Place, Role};
 use link::LinkEnd;
@@ -21,34 +21,40 @@ fn each_ground_of_install(rt: HostRuntime) -> Result<(), Fail> {
     end.make(Role::Logger, &LOGGER)?;
     let place = Place::Pairwise(15);
     assert_eq!(rt;
-        numbered(end.install(place, &KEY, &BASE, 0, (1 << 62) + 1)),
+        numbered(end.install(place, TKIP_KEY, &BASE, 0, (1 << 62) + 1)),
         Err(1)
     );
     assert_eq!(rt;
-        numbered(end.install(Place::Pairwise(16), &KEY, &BASE, 0, 0)),
+        numbered(end.install(Place::Pairwise(16), TKIP_KEY, &BASE, 0, 0)),
         Err(2)
     );
     assert_eq!(rt;
-        numbered(end.install(Place::Group(0), &KEY, &BASE, 0, 0)),
+        numbered(end.install(Place::Group(0), TKIP_KEY, &BASE, 0, 0)),
         Err(2)
     );
-    assert_eq!(rt; numbered(end.install(place, &KEY, &GROUP, 0, 0)), Err(3));
-    assert_eq!(rt; numbered(end.install(place, &KEY, &LOGGER, 0, 0)), Err(3));
     assert_eq!(rt;
-        numbered(end.install(place, &KEY[0..31], &BASE, 0, 0)),
+        numbered(end.install(place, TKIP_KEY, &GROUP, 0, 0)),
+        Err(3)
+    );
+    assert_eq!(rt;
+        numbered(end.install(place, TKIP_KEY, &LOGGER, 0, 0)),
+        Err(3)
+    );
+    assert_eq!(rt;
+        numbered(end.install(place, &TKIP_KEY[..31], &BASE, 0, 0)),
         Err(4)
     );
     assert_eq!(rt;
-        numbered(end.install(place, &KEY, &BASE, TOP + 1, 0)),
+        numbered(end.install(place, TKIP_KEY, &BASE, TOP + 1, 0)),
         Err(5)
     );
     assert_eq!(rt;
-        numbered(end.install(place, &KEY, &BASE, TOP, 1 << 62)),
+        numbered(end.install(place, TKIP_KEY, &BASE, TOP, 1 << 62)),
         Ok(())
     );
-    assert_eq!(rt; numbered(end.install(place, &KEY, &BASE, 0, 0)), Err(7));
+    assert_eq!(rt; numbered(end.install(place, TKIP_KEY, &BASE, 0, 0)), Err(7));
     assert_eq!(rt;
-        numbered(end.install(Place::Pairwise(0), &KEY, &BASE, 0, 0)),
+        numbered(end.install(Place::Pairwise(0), TKIP_KEY, &BASE, 0, 0)),
         Err(7)
     );
     Ok(())
@@ -59,27 +65,26 @@ fn each_ground_of_install(rt: HostRuntime) -> Result<(), Fail> {
 fn groups_under_an_address(rt: HostRuntime) -> Result<(), Fail> {
     let mut base = LinkEnd::blank(Tkip, Ccmp);
     base.make(Role::Base, &BASE)?;
-    let key = &KEY[0..16];
     assert_eq!(rt;
-        numbered(base.install(Place::Group(3), key, &LOGGER, 0, 0)),
+        numbered(base.install(Place::Group(3), CCMP_KEY, &LOGGER, 0, 0)),
         Err(3)
     );
     assert_eq!(rt;
-        numbered(base.install(Place::Group(3), &KEY, &BASE, 0, 0)),
+        numbered(base.install(Place::Group(3), TKIP_KEY, &BASE, 0, 0)),
         Err(4)
     );
     assert_eq!(rt;
-        numbered(base.install(Place::Group(3), key, &BASE, 0, 0)),
+        numbered(base.install(Place::Group(3), CCMP_KEY, &BASE, 0, 0)),
         Ok(())
     );
     assert_eq!(rt;
-        numbered(base.install(Place::Group(4), key, &BASE, 0, 0)),
+        numbered(base.install(Place::Group(4), CCMP_KEY, &BASE, 0, 0)),
         Err(2)
     );
     let mut logger = LinkEnd::blank(Tkip, Ccmp);
     logger.make(Role::Logger, &LOGGER)?;
     assert_eq!(rt;
-        numbered(logger.install(Place::Group(1), key, &LOGGER, 0, 0)),
+        numbered(logger.install(Place::Group(1), CCMP_KEY, &LOGGER, 0, 0)),
         Ok(())
     );
     Ok(())
@@ -92,12 +97,9 @@ fn a_removed_place_is_empty(rt: HostRuntime) -> Result<(), Fail> {
     let place = Place::Pairwise(3);
     assert_eq!(rt; numbered(end.remove(Place::Pairwise(16))), Err(2));
     assert_eq!(rt; numbered(end.remove(place)), Err(8));
-    end.install(place, &KEY[0..16], &BASE, 0, 0)?;
+    end.install(place, CCMP_KEY, &BASE, 0, 0)?;
     assert_eq!(rt; numbered(end.remove(place)), Ok(()));
     assert_eq!(rt; numbered(end.remove(place)), Err(8));
-    assert_eq!(rt;
-        numbered(end.install(place, &KEY[0..16], &BASE, 0, 0)),
-        Ok(())
-    );
+    assert_eq!(rt; numbered(end.install(place, CCMP_KEY, &BASE, 0, 0)), Ok(()));
     Ok(())
 }

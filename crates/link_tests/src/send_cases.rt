@@ -1,10 +1,11 @@
 // Sends that just fit, and sends that are one too many.
-use crate::ends_at_hand::{BASE, GROUP, KEY, LOGGER, NO_SPAN, PAIRWISE, logger, numbered, request};
+use crate::ends_at_hand::{
+    BASE, CCMP_KEY, GROUP, LOGGER, NO_SPAN, PAIRWISE, TKIP_KEY, logger, numbered, request,
+};
 use ccmp::Ccmp;
 use ends::{Place, Refusal, Request, Role, Span};
 use frame::Header;
 use link::LinkEnd;
-use octets::same;
 use std::test::Fail;
 use suite::Suite;
 use suite_tests::plain::Plain;
@@ -32,7 +33,7 @@ fn send_zeros<P: Suite, G: Suite>(
 
 #[test]
 fn messages_of_1_to_2304(rt: HostRuntime) -> Result<(), Fail> {
-    let mut end = logger(Tkip, Tkip, 32)?;
+    let mut end = logger(Tkip, Tkip, TKIP_KEY)?;
     assert_eq!(rt; numbered(send_zeros(&mut end, 0, 2312, 0)), Err(9));
     assert_eq!(rt; numbered(send_zeros(&mut end, 1, 2312, 0)), Ok(1));
     assert_eq!(rt; numbered(send_zeros(&mut end, 2304, 2312, 0)), Ok(1));
@@ -43,14 +44,14 @@ fn messages_of_1_to_2304(rt: HostRuntime) -> Result<(), Fail> {
 
 #[test]
 fn sixteen_pieces_and_seventeen(rt: HostRuntime) -> Result<(), Fail> {
-    let mut end = logger(Tkip, Tkip, 32)?;
+    let mut end = logger(Tkip, Tkip, TKIP_KEY)?;
     assert_eq!(rt; numbered(send_zeros(&mut end, 1016, 64, 0)), Ok(16));
     assert_eq!(rt; numbered(send_zeros(&mut end, 1017, 64, 0)), Err(10));
     assert_eq!(rt; numbered(send_zeros(&mut end, 100, 62, 0)), Err(10));
     assert_eq!(rt; numbered(send_zeros(&mut end, 100, 65, 0)), Err(10));
     assert_eq!(rt; numbered(send_zeros(&mut end, 100, 2314, 0)), Err(10));
     // without a code, 1,024 octets make sixteen pieces
-    let mut newer = logger(Ccmp, Tkip, 16)?;
+    let mut newer = logger(Ccmp, Tkip, CCMP_KEY)?;
     assert_eq!(rt; numbered(send_zeros(&mut newer, 1024, 64, 0)), Ok(16));
     assert_eq!(rt; numbered(send_zeros(&mut newer, 1025, 64, 0)), Err(10));
     Ok(())
@@ -58,7 +59,7 @@ fn sixteen_pieces_and_seventeen(rt: HostRuntime) -> Result<(), Fail> {
 
 #[test]
 fn the_clock_up_to_2_62(rt: HostRuntime) -> Result<(), Fail> {
-    let mut end = logger(Tkip, Ccmp, 32)?;
+    let mut end = logger(Tkip, Ccmp, TKIP_KEY)?;
     assert_eq!(rt; numbered(send_zeros(&mut end, 1, 64, 1 << 62)), Ok(1));
     assert_eq!(rt;
         numbered(send_zeros(&mut end, 1, 64, (1 << 62) + 1)),
@@ -70,7 +71,7 @@ fn the_clock_up_to_2_62(rt: HostRuntime) -> Result<(), Fail> {
 // The suite for tests has the counters 1 to 255: fifteen sends of sixteen pieces leave fifteen.
 #[test]
 fn counters_left_exactly_enough(rt: HostRuntime) -> Result<(), Fail> {
-    let mut end = logger(Plain, Plain, 4)?;
+    let mut end = logger(Plain, Plain, &TKIP_KEY[..4])?;
     for _ in 0..15 {
         assert_eq!(rt; numbered(send_zeros(&mut end, 1023, 64, 0)), Ok(16));
     }
@@ -86,7 +87,7 @@ fn send_hundred(
     index: &mut [Span],
     working: &mut [u8],
 ) -> Result<Result<usize, u8>, Refusal> {
-    let mut end = logger(Tkip, Tkip, 32)?;
+    let mut end = logger(Tkip, Tkip, TKIP_KEY)?;
     Ok(numbered(end.send(&request(64, 0), &[7; 100], frames, index, working)))
 }
 
@@ -120,14 +121,14 @@ fn a_refused_send_wipes_working_memory_only(rt: HostRuntime) -> Result<(), Fail>
         send_hundred(&mut frames, &mut index, &mut working)?,
         Err(12)
     );
-    assert!(rt; same(&frames, &[0xee; 179]));
-    assert!(rt; same(&working, &[0; 2560]));
+    assert_eq!(rt; frames, [0xee; 179]);
+    assert_eq!(rt; working, [0; 2560]);
     Ok(())
 }
 
 #[test]
 fn the_rest_of_the_memories_stays(rt: HostRuntime) -> Result<(), Fail> {
-    let mut end = logger(Ccmp, Ccmp, 16)?;
+    let mut end = logger(Ccmp, Ccmp, CCMP_KEY)?;
     let mut frames = [0xee; 200];
     let mut index = [NO_SPAN; 3];
     let mut working = [0xee; 2600];
@@ -141,8 +142,8 @@ fn the_rest_of_the_memories_stays(rt: HostRuntime) -> Result<(), Fail> {
         )),
         Ok(2)
     );
-    assert!(rt; same(&frames[180..], &[0xee; 20]));
-    assert!(rt; same(&working, &[0; 2600]));
+    assert_eq!(rt; &frames[180..], [0xee; 20].as_slice());
+    assert_eq!(rt; working, [0; 2600]);
     assert_eq!(rt;
         index[0],
         Span {
@@ -164,7 +165,7 @@ fn the_rest_of_the_memories_stays(rt: HostRuntime) -> Result<(), Fail> {
 // What is in the frames: two messages, the counters going on and the sequence number one higher.
 #[test]
 fn frames_in_the_air(rt: HostRuntime) -> Result<(), Fail> {
-    let mut end = logger(Tkip, Tkip, 32)?;
+    let mut end = logger(Tkip, Tkip, TKIP_KEY)?;
     let mut frames = [0u8; 180];
     let mut index = [NO_SPAN; 2];
     let mut working = [0u8; 2560];
@@ -173,18 +174,20 @@ fn frames_in_the_air(rt: HostRuntime) -> Result<(), Fail> {
     end.send(&q, &[8; 100], &mut frames, &mut index, &mut working)?;
     let first = Header::read(&frames[0..100])?;
     assert!(rt; first.to_ds && !first.from_ds && first.more_fragments && first.protected);
-    assert_eq!(rt; first.address1.number(), BASE.number());
-    assert_eq!(rt; first.address2.number(), LOGGER.number());
-    assert_eq!(rt; first.address3.number(), BASE.number());
+    assert_eq!(rt; first.address1, BASE);
+    assert_eq!(rt; first.address2, LOGGER);
+    assert_eq!(rt; first.address3, BASE);
     let second = Header::read(&frames[100..180])?;
     assert!(rt; !second.more_fragments);
     assert_eq!(rt; (first.sequence, first.fragment), (1, 0));
     assert_eq!(rt; (second.sequence, second.fragment), (1, 1));
-    assert!(rt; matches!(Tkip.head(&frames[124..180]), Ok((4, 0))));
+    assert_eq!(rt; Tkip.head(&frames[124..180]), Ok((4, 0)));
     let mut piece = [0u8; 44];
-    let opened = Tkip.open(&KEY, &frames[100..124], &frames[124..180], &mut piece);
-    assert!(rt; matches!(opened, Ok(44)));
-    assert!(rt; same(&piece[0..36], &[8; 36]));
+    assert_eq!(rt;
+        Tkip.open(TKIP_KEY, &frames[100..124], &frames[124..180], &mut piece),
+        Ok(44)
+    );
+    assert_eq!(rt; &piece[0..36], [8; 36].as_slice());
     Ok(())
 }
 
@@ -192,8 +195,8 @@ fn frames_in_the_air(rt: HostRuntime) -> Result<(), Fail> {
 fn where_a_base_sends(rt: HostRuntime) -> Result<(), Fail> {
     let mut base = LinkEnd::blank(Tkip, Ccmp);
     base.make(Role::Base, &BASE)?;
-    base.install(PAIRWISE, &KEY, &LOGGER, 0, 0)?;
-    base.install(Place::Group(2), &KEY[0..16], &BASE, 0, 0)?;
+    base.install(PAIRWISE, TKIP_KEY, &LOGGER, 0, 0)?;
+    base.install(Place::Group(2), CCMP_KEY, &BASE, 0, 0)?;
     let mut frames = [0u8; 100];
     let mut index = [NO_SPAN; 1];
     let mut working = [0u8; 2560];
@@ -210,9 +213,9 @@ fn where_a_base_sends(rt: HostRuntime) -> Result<(), Fail> {
     );
     let header = Header::read(&frames)?;
     assert!(rt; header.from_ds && !header.to_ds && !header.more_fragments);
-    assert_eq!(rt; header.address1.number(), GROUP.number());
-    assert_eq!(rt; header.address3.number(), BASE.number());
-    assert!(rt; matches!(Ccmp.head(&frames[24..58]), Ok((1, 2))));
+    assert_eq!(rt; header.address1, GROUP);
+    assert_eq!(rt; header.address3, BASE);
+    assert_eq!(rt; Ccmp.head(&frames[24..58]), Ok((1, 2)));
     q.destination = LOGGER;
     assert_eq!(rt;
         numbered(base.send(&q, &[7; 10], &mut frames, &mut index, &mut working)),
@@ -226,7 +229,7 @@ fn where_a_base_sends(rt: HostRuntime) -> Result<(), Fail> {
         Ok(1)
     );
     let header = Header::read(&frames)?;
-    assert_eq!(rt; header.address1.number(), LOGGER.number());
+    assert_eq!(rt; header.address1, LOGGER);
     q.source = GROUP;
     assert_eq!(rt;
         numbered(base.send(&q, &[7; 10], &mut frames, &mut index, &mut working)),
@@ -237,8 +240,8 @@ fn where_a_base_sends(rt: HostRuntime) -> Result<(), Fail> {
 
 #[test]
 fn where_a_logger_cannot_send(rt: HostRuntime) -> Result<(), Fail> {
-    let mut end = logger(Ccmp, Tkip, 16)?;
-    end.install(Place::Group(1), &KEY, &BASE, 0, 0)?;
+    let mut end = logger(Ccmp, Tkip, CCMP_KEY)?;
+    end.install(Place::Group(1), TKIP_KEY, &BASE, 0, 0)?;
     let mut frames = [0u8; 100];
     let mut index = [NO_SPAN; 1];
     let mut working = [0u8; 2560];

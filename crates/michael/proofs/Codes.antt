@@ -1,8 +1,10 @@
 -- Michael over octets that come in parts; how many words it takes; and that its code is eight octets.
-use Rattle.std.proofs.Common.{◌≡◌, ℕ, ◌+◌, ◌-◌, ◌*◌, ◌/◌, ◌%◌, ◌<◌, ◌≤◌, List, [], ◌∷◌, ◌++◌, map, length, get_or, take, drop, replicate, sym, refl, ap, ◌∙◌, arith}
+use Rattle.std.proofs.Common.{◌≡◌, ℕ, zero, suc, ◌+◌, ◌-◌, ◌*◌, ◌/◌, ◌%◌, ◌≤◌, lit≤, List, [], ◌∷◌, ◌++◌, map, length, get_or, drop, replicate, sym, refl, ap, ◌∙◌, arith}
+use Rattle.std.specs.Int.{w32, from_le_bytes}
 use Rattle.std.specs.List.{range_with_len}
-use Rattle.std.proofs.lemmas.List.{append_assoc, drop-drop, length-append, length-drop, length-replicate}
-use Rattle.octets.specs.Octets.{Octets, AreOctets, little, little_octets, part}
+use Rattle.std.specs.Simd.{first_chunks}
+use Rattle.std.proofs.lemmas.List.{append_assoc, length-append, length-replicate}
+use Rattle.octets.specs.Octets.{Octets, AreOctets, little, little_octets}
 use Rattle.octets.proofs.Numbers.{AreOctets-append, AreOctets-little}
 use Rattle.octets.proofs.Writing.{spelled}
 use Rattle.frame.specs.declared.addresses.Address.{Address}
@@ -36,51 +38,35 @@ ends_in-append s xs ys whole =
     ∙ ap (chain s) (words_append xs (padded ys) whole)
     ∙ chain-append s (words xs) (words (padded ys))
 
--- the first word of octets, and none where they are too few
-pub words_first : (xs : Octets) → 4 ≤ length xs → words xs ≡ little (take 4 xs) ∷ words (drop 4 xs)
-words_first [] long = absurd (omega arith)
-words_first (a ∷ []) long = absurd (omega arith)
-words_first (a ∷ b ∷ []) long = absurd (omega arith)
-words_first (a ∷ b ∷ c ∷ []) long = absurd (omega arith)
-words_first (a ∷ b ∷ c ∷ d ∷ xs) long = refl
+-- a word made of four octets
+pub word_of : (x a b c d : ℕ) → x ≡ a + b * 256 + c * 65536 + d * 16777216 → x ≡ little (a ∷ b ∷ c ∷ d ∷ [])
+word_of x a b c d e = omega arith
 
-pub words_none : (xs : Octets) → length xs < 4 → words xs ≡ []
-words_none [] short = refl
-words_none (a ∷ []) short = refl
-words_none (a ∷ b ∷ []) short = refl
-words_none (a ∷ b ∷ c ∷ []) short = refl
-words_none (a ∷ b ∷ c ∷ d ∷ xs) short = absurd (omega arith)
-
--- a loop over words: its next turn, and its end
-pub chain_more : (s : State) (xs : Octets) (i : ℕ) → i < length xs / 4 → chain s (words (drop (4 * i) xs)) ≡ chain (taking s (little (part (4 * i) 4 xs))) (words (drop (4 * (i + 1)) xs))
-chain_more s xs i inside =
-    let next : 4 * i + 4 ≡ 4 * (i + 1) = omega arith in
-    ap (chain s) (words_first (drop (4 * i) xs) (rw length-drop (omega arith)))
-    ∙ ap (λ ys. chain (taking s (little (part (4 * i) 4 xs))) (words ys)) (drop-drop 4 (4 * i) xs ∙ ap (λ n. drop n xs) next)
-
-pub chain_all : (s : State) (xs : Octets) (i : ℕ) → length xs / 4 ≤ i → chain s (words (drop (4 * i) xs)) ≡ s
-chain_all s xs i past = ap (chain s) (words_none (drop (4 * i) xs) (rw length-drop (omega arith)))
-
--- octets in two parts, of which the first is whole words
-pub ends_in_parts : (s : State) (xs ys all rest : Octets) → all ≡ xs ++ ys → length xs % 4 ≡ 0 → ends_in (chain s (words xs)) (ys ++ rest) ≡ ends_in s (all ++ rest)
-ends_in_parts s xs ys all rest parts whole =
-    sym (ends_in-append s xs (ys ++ rest) whole)
-    ∙ ap (ends_in s) (sym (append_assoc xs ys rest))
-    ∙ sym (ap (λ m. ends_in s (m ++ rest)) parts)
+-- chunks of four that come first may be taken first
+pub ends_in_chunked : (s : State) (n : ℕ) (xs rest : Octets) → n * 4 ≤ length xs → ends_in (chain s (map (from_le_bytes w32) (first_chunks 4 n xs))) (drop (n * 4) xs ++ rest) ≡ ends_in s (xs ++ rest)
+ends_in_chunked s zero xs rest long = refl
+ends_in_chunked s (suc n) [] rest long = absurd (omega arith)
+ends_in_chunked s (suc n) (a ∷ []) rest long = absurd (omega arith)
+ends_in_chunked s (suc n) (a ∷ b ∷ []) rest long = absurd (omega arith)
+ends_in_chunked s (suc n) (a ∷ b ∷ c ∷ []) rest long = absurd (omega arith)
+ends_in_chunked s (suc n) (a ∷ b ∷ c ∷ d ∷ xs) rest long =
+    let four = a ∷ b ∷ c ∷ d ∷ [] in
+    let past : suc n * 4 ≡ suc (suc (suc (suc (n * 4)))) = omega arith in
+    let taken = chain (taking s (from_le_bytes w32 four)) (map (from_le_bytes w32) (first_chunks 4 n xs)) in
+    ap (λ k. ends_in taken (drop k (four ++ xs) ++ rest)) past
+    ∙ ends_in_chunked (taking s (from_le_bytes w32 four)) n xs rest (omega arith)
+    ∙ ap (λ w. ends_in (taking s w) (xs ++ rest)) (word_of _ a b c d refl)
+    ∙ sym (ends_in-append s four (xs ++ rest) refl)
 
 -- the octets of an address, one by one
 abbrev each : Address → Octets
 each a = map (λ i. get_or a.octets i 0) (range_with_len 0 6)
 
-pub ends_in-heading : (s : State) (destination source : Address) (priority : ℕ) (rest : Octets) → length destination.octets ≡ 6 → length source.octets ≡ 6 → ends_in (chain s (words (each destination ++ (each source ++ (priority ∷ 0 ∷ 0 ∷ 0 ∷ []))))) rest ≡ ends_in s (heading destination source priority ++ rest)
+pub ends_in-heading : (s : State) (destination source : Address) (priority : ℕ) (rest : Octets) → length destination.octets ≡ 6 → length source.octets ≡ 6 → ends_in (chain s (map (from_le_bytes w32) (first_chunks 4 4 (each destination ++ (each source ++ (priority ∷ 0 ∷ 0 ∷ 0 ∷ [])))))) rest ≡ ends_in s (heading destination source priority ++ rest)
 ends_in-heading s destination source priority rest ld ls =
-    sym (ends_in-append s (each destination ++ (each source ++ (priority ∷ 0 ∷ 0 ∷ 0 ∷ []))) rest refl)
+    ends_in_chunked s 4 (each destination ++ (each source ++ (priority ∷ 0 ∷ 0 ∷ 0 ∷ []))) rest (lit≤ tt)
     ∙ sym (ap (λ xs. ends_in s ((xs ++ (each source ++ (priority ∷ 0 ∷ 0 ∷ 0 ∷ []))) ++ rest)) (spelled 6 destination.octets ld))
     ∙ sym (ap (λ xs. ends_in s ((destination.octets ++ (xs ++ (priority ∷ 0 ∷ 0 ∷ 0 ∷ []))) ++ rest)) (spelled 6 source.octets ls))
-
--- a word made of four octets
-pub word_of : (x a b c d : ℕ) → x ≡ a + b * 256 + c * 65536 + d * 16777216 → x ≡ little (a ∷ b ∷ c ∷ d ∷ [])
-word_of x a b c d e = omega arith
 
 pub length-words : (xs : Octets) → length (words xs) ≡ length xs / 4
 length-words [] = refl

@@ -1,6 +1,7 @@
 // The state of Michael, and what a word makes of it.
-ghost use Rattle.std.specs.Prelude.{◌≡◌, length};
-ghost use Rattle.michael.specs.Michael.{key_state, xswap, block, taking, chain, words, code_octets};
+ghost use Rattle.std.specs.Prelude.{◌≡◌, map, length};
+ghost use Rattle.std.specs.Int.{w32, from_le_bytes};
+ghost use Rattle.michael.specs.Michael.{key_state, xswap, block, taking, chain, code_octets};
 
 use octets::little;
 
@@ -25,7 +26,8 @@ impl State {
         requires { length key.now ≡ 8 }
         ensures { result ≡ key_state key.now }
     {
-        let (left, right) = (little::u32_at(key, 0), little::u32_at(key, 4));
+        let left = little::number_at::<4>(key, 0) as u32;
+        let right = little::number_at::<4>(key, 4) as u32;
         State { left, right }
     }
 
@@ -58,20 +60,15 @@ impl State {
         .block()
     }
 
-    // The state once it has taken each whole word of some octets. Octets left over at their end are not read.
-    pub(crate) fn take_words(self, octets: &[u8]) -> State
-        ensures { result ≡ chain self (words octets.now) }
+    // The state once it has taken words, each in its four octets.
+    pub(crate) fn take_words(self, words: &[[u8; 4]]) -> State
+        ensures { result ≡ chain self (map (from_le_bytes w32) words.now) }
     {
-        let State {
-            mut left,
-            mut right,
-        } = self;
-        for i in 0..octets.len() / 4 {
-            let next = State { left, right }.take(little::u32_at(octets, 4 * i));
-            left = next.left;
-            right = next.right;
+        let mut state = self;
+        for word in words {
+            state = state.take(u32::from_le_bytes(*word));
         }
-        State { left, right }
+        state
     }
 
     // Both words in octets.

@@ -5,9 +5,9 @@ ghost use Rattle.std.specs.Prelude.{◌≡◌, ℕ, ◌++◌, length};
 ghost use Rattle.std.specs.List.{flat_map};
 ghost use Rattle.octets.specs.Octets.{Octets};
 ghost use Rattle.frame.specs.declared.addresses.Address.{Address};
-ghost use Rattle.michael.specs.Michael.{michael, heading, words, padded, word_count};
+ghost use Rattle.michael.specs.Michael.{michael, heading as heading_octets, words, padded, word_count};
 
-use frame::Address;
+use frame::Heading;
 
 pub mod blocks;
 pub mod stages;
@@ -16,36 +16,21 @@ pub use blocks::State;
 pub use stages::{Addressed, Keyed};
 
 // The code of a whole message.
-pub fn code(
-    key: &[u8],
-    destination: &Address,
-    source: &Address,
-    priority: u8,
-    message: &[u8],
-) -> [u8; 8]
+pub fn code(key: &[u8], heading: &Heading, message: &[u8]) -> [u8; 8]
     requires { length key.now ≡ 8 }
-    ensures { result ≡ michael key.now (heading destination.now source.now priority ++ message.now) }
+    ensures { result ≡ michael key.now (heading_octets heading.now.destination heading.now.source heading.now.priority ++ message.now) }
 {
-    Keyed::new(key)
-        .address(destination, source, priority)
-        .portion(message)
-        .end()
+    Keyed::new(key).address(heading).portion(message).end()
 }
 
 // The code of a message that comes in portions: however it is cut, that of the whole.
-pub fn code_in_portions(
-    key: &[u8],
-    destination: &Address,
-    source: &Address,
-    priority: u8,
-    portions: &[&[u8]],
-) -> [u8; 8]
+pub fn code_in_portions(key: &[u8], heading: &Heading, portions: &[&[u8]]) -> [u8; 8]
     requires { length key.now ≡ 8 }
-    ensures { result ≡ michael key.now (heading destination.now source.now priority ++ flat_map (λ x. x.now) portions.now) }
+    ensures { result ≡ michael key.now (heading_octets heading.now.destination heading.now.source heading.now.priority ++ flat_map (λ x. x.now) portions.now) }
 {
-    let mut stage = Keyed::new(key).address(destination, source, priority);
-    for i in 0..portions.len() {
-        stage = stage.portion(portions[i]);
+    let mut stage = Keyed::new(key).address(heading);
+    for portion in portions {
+        stage = stage.portion(portion);
     }
     stage.end()
 }
@@ -61,7 +46,7 @@ pub fn bare_code(key: &[u8], octets: &[u8]) -> [u8; 8]
 // How many words Michael takes for a message of so many octets, addresses and padding counted.
 pub fn word_count(message_length: usize) -> usize
     ensures value { result ≡ word_count message_length }
-    ensures counts { (d s : Address) (p : ℕ) (m : Octets) → length d.octets ≡ 6 → length s.octets ≡ 6 → length m ≡ message_length → length (words (padded (heading d s p ++ m))) ≡ result }
+    ensures counts { (d s : Address) (p : ℕ) (m : Octets) → length d.octets ≡ 6 → length s.octets ≡ 6 → length m ≡ message_length → length (words (padded (heading_octets d s p ++ m))) ≡ result }
 {
     message_length / 4 + 6
 }

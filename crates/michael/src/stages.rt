@@ -2,11 +2,11 @@
 // message in portions, and ends in the code. Each step uses its stage up, and a stage that is not ended is given up.
 ghost use Rattle.std.specs.Prelude.{◌≡◌, ◌+◌, ◌%◌, ◌<◌, [], ◌∷◌, ◌++◌, length};
 ghost use Rattle.octets.specs.Octets.{Octets};
-ghost use Rattle.michael.specs.Michael.{key_state, heading, words, padded, ends_in, code_octets};
+ghost use Rattle.michael.specs.Michael.{key_state, heading as heading_octets, words, padded, ends_in, code_octets};
 ghost use Rattle.michael.specs.Stages.{held, comes_to};
 
 use crate::blocks::State;
-use frame::Address;
+use frame::Heading;
 
 // The octets that wait until a word of the message is whole.
 #[derive(Clone, Copy)]
@@ -67,13 +67,18 @@ impl Keyed {
     }
 
     // Takes the addresses and the priority, four words.
-    pub fn address(self, destination: &Address, source: &Address, priority: u8) -> Addressed
-        ensures { (rest : Octets) → comes_to result rest ≡ ends_in self.state (heading destination.now source.now priority ++ rest) }
+    pub fn address(self, heading: &Heading) -> Addressed
+        ensures { (rest : Octets) → comes_to result rest ≡ ends_in self.state (heading_octets heading.now.destination heading.now.source heading.now.priority ++ rest) }
     {
         let Keyed { state } = self;
-        let [a, b, c, d, e, f] = destination.octets;
-        let [g, h, i, j, k, l] = source.octets;
-        Addressed::over(state.take_words(&[a, b, c, d, e, f, g, h, i, j, k, l, priority, 0, 0, 0]))
+        let [a, b, c, d, e, f] = heading.destination.octets;
+        let [g, h, i, j, k, l] = heading.source.octets;
+        Addressed::over(state.take_words(&[
+            [a, b, c, d],
+            [e, f, g, h],
+            [i, j, k, l],
+            [heading.priority, 0, 0, 0],
+        ]))
     }
 
     // Lets the stage go, with no code.
@@ -122,8 +127,8 @@ impl Addressed {
         ensures { (rest : Octets) → comes_to result rest ≡ comes_to self (octets.now ++ rest) }
     {
         let mut stage = self;
-        for i in 0..octets.len() {
-            stage = stage.octet(octets[i]);
+        for octet in octets {
+            stage = stage.octet(*octet);
         }
         stage
     }
@@ -135,8 +140,8 @@ impl Addressed {
         let Addressed { state, waiting } = self;
         match waiting {
             Waiting::Nothing => {
-                let (whole, ragged) = octets.split_at(octets.len() / 4 * 4);
-                Addressed::over(state.take_words(whole)).few(ragged)
+                let (words, ragged) = octets.as_chunks::<4>();
+                Addressed::over(state.take_words(words)).few(ragged)
             }
             _ => Addressed { state, waiting }.few(octets),
         }

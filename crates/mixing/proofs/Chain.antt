@@ -1,7 +1,7 @@
 -- Words that grow in place, one after another.
-use Rattle.std.proofs.Common.{◌≡◌, ℕ, ◌+◌, ◌*◌, ◌/◌, ◌%◌, ◌^◌, ◌<◌, ◌≤◌, List, [], ◌∷◌, ◌++◌, length, get_or, take, drop, set, sym, ap, ◌∙◌, arith}
+use Rattle.std.proofs.Common.{◌≡◌, ℕ, ◌+◌, ◌*◌, ◌/◌, ◌%◌, ◌^◌, ◌<◌, List, [], ◌∷◌, ◌++◌, length, get_or, take, drop, set, sym, ap, ◌∙◌, arith}
 use lib.Bits.{bit_or, bit_xor, or_shifted_r}
-use Rattle.std.proofs.lemmas.List.{append_assoc, append-nil, take_all, take_more_set, drop_all, drop_more, drop-set-lt}
+use Rattle.std.proofs.lemmas.List.{append_assoc, take_more_set, drop_more, drop-set-lt}
 use Rattle.mixing.specs.Mixing.{plus, turned, chained, around}
 
 pub turned_from_or : (w : ℕ) → w < 2 ^ 16 → bit_or (w / 2) ((w * 2 ^ 15) % 2 ^ 16) ≡ turned w
@@ -28,12 +28,4 @@ going_more f ks start n before ws by hk hw e h =
     ∙ ap (step (drop (n + 1) ws)) e
     ∙ sym (ap (λ back. take n ws ++ chained f before (k ∷ keys) back) (drop_more ws n 0 hw))
     ∙ sym (ap (λ from. take n ws ++ chained f before from (drop n ws)) (drop_more ks n 0 hk))
-    ∙ h
-
-pub going_all : (f : ℕ → ℕ) (ks start : List ℕ) (n before : ℕ) (ws : List ℕ) → length ks ≤ n → length ws ≤ n → Going f ks start n before ws → ws ≡ around f ks start
-going_all f ks start n before ws hk hw h =
-    sym (append-nil ws)
-    ∙ sym (ap (λ back. ws ++ back) (drop_all n ws hw))
-    ∙ sym (ap (λ keys. ws ++ chained f before keys (drop n ws)) (drop_all n ks hk))
-    ∙ sym (ap (λ front. front ++ chained f before (drop n ks) (drop n ws)) (take_all n ws hw))
     ∙ h

@@ -70,11 +70,11 @@ rounds_part key (suc i) ws =
     λ j. at odd (omega arith) j ∷ at (odd + 2) (omega arith) j ∷ at (odd + 4) (omega arith) j ∷ at (odd + 6) (omega arith) j ∷ at odd (omega arith) j ∷ [] in
     λ j. numbered i (around substituted (keys j) (rounds_part key i ws j))
 
-phase1_part : (key : Octets) (transmitter : Address) (upper : ℕ) → phase1 (part 0 16 key) transmitter upper ≡ phase1 key transmitter upper
+pub phase1_part : (key : Octets) (transmitter : Address) (upper : ℕ) → phase1 (part 0 16 key) transmitter upper ≡ phase1 key transmitter upper
 unfolding phase1
 phase1_part key transmitter upper = rounds_part key 8 _
 
-phase2_part : (key : Octets) (ttak : List ℕ) (lower : ℕ) → phase2 (part 0 16 key) ttak lower ≡ phase2 key ttak lower
+pub phase2_part : (key : Octets) (ttak : List ℕ) (lower : ℕ) → phase2 (part 0 16 key) ttak lower ≡ phase2 key ttak lower
 unfolding phase2
 phase2_part key ttak lower =
     let at : (k : ℕ) → k < 8 → word (part 0 16 key) k ≡ word key k = word_part key in

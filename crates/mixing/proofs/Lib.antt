@@ -2,3 +2,4 @@ mod Rule
 mod Chain
 mod Laying
 pub mod Keys
+mod Words

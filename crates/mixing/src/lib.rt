@@ -7,6 +7,7 @@ ghost use Rattle.octets.specs.Octets.{AreOctets, part};
 ghost use Rattle.mixing.specs.Mixing.{phase1, phase2, rc4_key};
 
 use frame::Address;
+use octets::array_at;
 use steps::{round, seed, start, stir};
 
 mod steps;
@@ -24,9 +25,10 @@ impl Phase1 {
         requires { 16 ≤ length key.now }
         ensures { result.words ≡ phase1 key.now transmitter.now upper }
     {
+        let temporal = array_at(key, 0);
         let mut words = start(transmitter, upper);
         for i in 0..8u16 {
-            round(key, i, &mut words);
+            round(&temporal, i, &mut words);
         }
         Phase1 { words }
     }
@@ -38,8 +40,9 @@ impl Phase1 {
     {
         let [a, b, c, d, e] = self.words;
         let mut words = [a, b, c, d, e, e.wrapping_add(lower)];
-        stir(key, &mut words);
-        seed(key, &words, lower)
+        let temporal = array_at(key, 0);
+        stir(&temporal, &mut words);
+        seed(&temporal, &words, lower)
     }
 }
 

@@ -1,8 +1,8 @@
--- The key stream over joined lists, over one octet more, and twice.
-use Rattle.std.proofs.Common.{◌≡◌, ℕ, suc, ◌+◌, ◌-◌, ◌<◌, ◌≤◌, List, [], ◌∷◌, ◌++◌, length, get_or, take, drop, set, sym, refl, ap, ◌∙◌, append_assoc, append-nil, arith}
+-- The key stream over joined lists, over a piece in the middle, and twice.
+use Rattle.std.proofs.Common.{◌≡◌, ℕ, suc, ◌+◌, ◌≤◌, List, [], ◌∷◌, ◌++◌, length, take, drop, sym, refl, ap, ◌∙◌, append_assoc, arith}
 use lib.Bits.{bit_xor, xor_assoc, xor_self, xor_zero_r}
 use borrow.Rule.Slice.PartMut.{put_mid}
-use Rattle.std.proofs.lemmas.List.{length-drop, length-take-le, take_all, take_at, take_rest, take-append-drop, take_more_set, drop_all, drop_at, drop-drop, drop_more, drop-set-lt}
+use Rattle.std.proofs.lemmas.List.{length-drop, length-take-le, take-append-drop, drop-drop}
 use Rattle.std.proofs.lemmas.Slice.{take-put_mid, drop-put_mid}
 use Rattle.rc4.specs.declared.Rc4.{Rc4}
 use Rattle.rc4.specs.Rc4.{stepped, output, after, masked, GoesOn}
@@ -57,22 +57,6 @@ made i s xs = take i xs ++ masked s (drop i xs)
 abbrev pub last : ℕ → Rc4 → List ℕ → Rc4
 last i s xs = after (length (drop i xs)) s
 
-module _ (s : Rc4) (xs : List ℕ) (i : ℕ) (h : i < length xs) where
-  abbrev next : List ℕ
-  next = set xs i (bit_xor (get_or xs i 0) (output (stepped s)))
-
-  rest : drop (i + 1) next ≡ drop (i + 1) xs
-  rest = drop-set-lt (i + 1) xs i (bit_xor (get_or xs i 0) (output (stepped s))) (omega arith)
-
-  pub made_more : made (i + 1) (stepped s) next ≡ made i s xs
-  made_more =
-      let y = bit_xor (get_or xs i 0) (output (stepped s)) in
-      ap (λ l. l ++ masked (stepped s) (drop (i + 1) next)) (take_more_set xs i y h) ∙ append_assoc (take i xs) _ _
-      ∙ ap (λ l. take i xs ++ (y ∷ masked (stepped s) l)) rest ∙ sym (ap (λ l. take i xs ++ masked s l) (drop_more xs i 0 h))
-
-  pub last_more : last (i + 1) (stepped s) next ≡ last i s xs
-  last_more = ap (λ l. after (length l) (stepped s)) rest ∙ sym (ap (λ l. after (length l) s) (drop_more xs i 0 h))
-
 -- n octets from the place i on, which hold zs now
 module _ (s : Rc4) (xs zs : List ℕ) (i n k : ℕ) (h : i + n ≤ length xs) (e : k ≡ n) (made_of : zs ≡ masked s (take k (drop i xs))) where
   abbrev then : List ℕ
@@ -99,37 +83,3 @@ module _ (s : Rc4) (xs zs : List ℕ) (i n k : ℕ) (h : i + n ≤ length xs) (e
 
   pub last_piece : last (i + n) (after n s) then ≡ last i s xs
   last_piece = ap (λ l. after (length l) (after n s)) behind ∙ after_split s (drop i xs) n within
-
--- The first m octets hold ys, and then those behind them zs. The checker writes k for m, as m - 0.
-module _ (s t : Rc4) (xs ys zs : List ℕ) (m k : ℕ) (h : m ≤ length xs) (e : k ≡ m) (first : ys ≡ masked s (take k xs)) (between : t ≡ after (length (take k xs)) s) where
-  abbrev mid : List ℕ
-  mid = ys ++ drop k xs
-
-  front : ys ≡ masked s (take m xs)
-  front = first ∙ ap (λ n. masked s (take n xs)) e
-
-  middle : t ≡ after m s
-  middle = between ∙ ap (λ n. after (length (take n xs)) s) e ∙ ap (λ n. after n s) (length-take-le m xs h)
-
-  long-front : length ys ≡ m
-  long-front = ap length front ∙ length-masked s (take m xs) ∙ length-take-le m xs h
-
-  back : take (length mid - m) (drop m mid) ≡ drop m xs
-  back = take_rest mid m ∙ drop_at ys (drop k xs) m long-front ∙ ap (λ n. drop n xs) e
-
-  pub both_parts : zs ≡ masked t (take (length mid - m) (drop m mid)) → put_mid m (length mid - m) mid zs ≡ masked s xs
-  both_parts second =
-      let none : drop (length mid - m) (drop m mid) ≡ [] = drop_all (length mid - m) (drop m mid) (simp length-drop (omega arith)) in
-      ap (λ l. take m mid ++ (zs ++ l)) none ∙ ap (λ l. take m mid ++ l) (append-nil zs)
-      ∙ ap (λ l. l ++ zs) (take_at ys (drop k xs) m long-front ∙ front)
-      ∙ ap (λ l. masked s (take m xs) ++ l) (second ∙ ap (masked t) back ∙ ap (λ f. masked f (drop m xs)) middle) ∙ masked_split s xs m h
-
-  pub both_states : after (length (take (length mid - m) (drop m mid))) t ≡ after (length xs) s
-  both_states = ap (λ l. after (length l) t) back ∙ ap (after (length (drop m xs))) middle ∙ after_split s xs m h
-
-module _ (s : Rc4) (xs : List ℕ) (i : ℕ) (h : length xs ≤ i) where
-  pub made_all : made i s xs ≡ xs
-  made_all = ap (λ l. take i xs ++ masked s l) (drop_all i xs h) ∙ append-nil (take i xs) ∙ take_all i xs h
-
-  pub last_all : last i s xs ≡ s
-  last_all = ap (λ l. after (length l) s) (drop_all i xs h)

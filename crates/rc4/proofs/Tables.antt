@@ -1,7 +1,5 @@
 -- The table under an exchange, and the turns of the key schedule.
-use Rattle.std.proofs.Common.{◌≡◌, ℕ, suc, ◌+◌, ◌*◌, ◌/◌, ◌%◌, ◌<◌, ◌≢◌, List, length, get_or, set, sym, ap, ◌∙◌, ⊎_elim, add-one, arith, length-set}
-use lib.Arith.{digits_mod}
-use Rattle.std.proofs.lemmas.Nat.{div-add-mod'}
+use Rattle.std.proofs.Common.{◌≡◌, ℕ, ◌+◌, ◌<◌, ◌≢◌, List, length, get_or, set, sym, ap, ◌∙◌, ⊎_elim, add-one, arith, length-set}
 use Rattle.std.proofs.lemmas.List.{get_or-set_same, get_or-set_other}
 use Rattle.std.proofs.lemmas.Bool.{cases_eq}
 use Rattle.rc4.specs.Rc4.{swapped, key_move, key_turn, key_turns}
@@ -24,15 +22,3 @@ pair s j = (s, j)
 pub turn_more : (key s : List ℕ) (i j n : ℕ) → ◌≡◌ {A = List ℕ × ℕ} (s, j) (key_turns key i) → n ≡ key_move key i (s, j) → ◌≡◌ {A = List ℕ × ℕ} (swapped s i n, n) (key_turns key (i + 1))
 unfolding key_turns
 turn_more key s i j n e h = ap (λ (m : ℕ). pair (swapped s i m) m) h ∙ ap (key_turn key i) e ∙ ap (key_turns key) (sym (add-one i))
-
--- the place in a key of n octets, one turn on: the next place, or the first one again
-pub place_next : (i n k : ℕ) → k ≡ i % n → k + 1 < n → k + 1 ≡ (i + 1) % n
-place_next i n k e h =
-    let sum : i / n * n + (k + 1) ≡ i + 1 = omega (arith, div-add-mod' i n) in
-    sym (digits_mod (i / n) h) ∙ ap (λ m. m % n) sum
-
-pub place_again : (i n k : ℕ) → k ≡ i % n → k + 1 ≡ n → 0 < n → 0 ≡ (i + 1) % n
-place_again i n k e full some =
-    let row : suc (i / n) * n ≡ i / n * n + n = omega arith in
-    let sum : suc (i / n) * n + 0 ≡ i + 1 = omega (arith, div-add-mod' i n) in
-    sym (digits_mod (suc (i / n)) some) ∙ ap (λ m. m % n) sum

@@ -1,12 +1,13 @@
 -- What a send that is granted goes on with.
-use Rattle.std.specs.Prelude.{ℕ, ◌+◌, ◌-◌, ◌*◌, ◌<◌, ◌≤◌, List, take, Ok, Err, Result}
+use Rattle.std.specs.Prelude.{◌≡◌, ℕ, ◌+◌, ◌-◌, ◌*◌, ◌<◌, ◌≤◌, List, take, Some, Ok, Err, Result}
 use Rattle.octets.specs.Octets.{Octets}
 use Rattle.suite.specs.Meaning.{Meaning, longest_piece}
 use Rattle.suite.specs.declared.sizes.Sizes.{Sizes}
 use Rattle.ends.specs.declared.refusals.Refusal.{Refusal}
 use Rattle.ends.specs.declared.requests.Plan.{Plan}
-use Rattle.ends.specs.Holding.{Filling}
-use Rattle.ends.specs.Sends.{room, frames_of, coded}
+use Rattle.ends.specs.declared.requests.Request.{Request}
+use Rattle.ends.specs.Holding.{Filling, End}
+use Rattle.ends.specs.Sends.{room, frames_of, coded, planned}
 use Rattle.sending.specs.declared.plans.Outgoing.{Outgoing}
 
 -- of what fills the place, only its key
@@ -35,3 +36,12 @@ pub record Ready (z : Sizes) (p : Plan) (size frames index working : ℕ) : Type
   pub frames_room : room z p.count (size + z.code) ≤ frames
   pub index_room : p.count ≤ index
   pub working_room : size + z.code ≤ working
+
+-- a send is granted: what fills its place, and what its frames can rely on
+pub record Granted (z : Sizes) (e : End) (q : Request) (size frames index working : ℕ) (o : Outgoing) : Type 0 where
+  pub fill : Filling
+  pub fills : e.at q.place ≡ Some fill
+  pub is_planned : planned z e q size frames index working ≡ Ok (fill, o.plan)
+  pub is_key : o.key ≡ fill.key
+  pub next : fill.send ≡ o.plan.counter
+  pub ready : Ready z o.plan size frames index working

@@ -1,9 +1,9 @@
 // How a message goes out: its plan, from the checks that granted it to the counters that it uses.
-ghost use Rattle.std.specs.Prelude.{◌≡◌, ◌+◌, ◌^◌, ◌<◌, ◌≤◌, true};
+ghost use Rattle.std.specs.Prelude.{◌≡◌, ◌+◌, ◌^◌, ◌<◌, ◌≤◌, true, IfOk, OnOk};
 ghost use Rattle.ends.specs.Places.{exists};
 ghost use Rattle.ends.specs.Holding.{held, filled, filling};
 ghost use Rattle.ends.specs.Sends.{destination_of, source_of, address1_of, address3_of, direction_from, plan_of, planned};
-ghost use Rattle.sending.specs.Outgoings.{outgoing};
+ghost use Rattle.sending.specs.Outgoings.{outgoing, Granted};
 ghost use Rattle.sending.specs.Sent.{next_counter, used, having_sent};
 
 use crate::asked::Asked;
@@ -105,7 +105,9 @@ impl Asked<'_> {
 
     // The plan and the key of the send, or why it is refused.
     pub fn plan(&self) -> Result<Outgoing, Refusal>
-        ensures { result ≡ outgoing (planned self.now.sizes (held self.now.state.now) self.now.request.now self.now.lengths.message self.now.lengths.frames self.now.lengths.index self.now.lengths.working) }
+        ensures value { result ≡ outgoing (planned self.now.sizes (held self.now.state.now) self.now.request.now self.now.lengths.message self.now.lengths.frames self.now.lengths.index self.now.lengths.working) }
+        ensures there { OnOk result (exists self.now.request.now.place ≡ true) }
+        ensures granted { IfOk result (λ o. Granted self.now.sizes (held self.now.state.now) self.now.request.now self.now.lengths.message self.now.lengths.frames self.now.lengths.index self.now.lengths.working o) }
     {
         self.check_request()?;
         let installation = self

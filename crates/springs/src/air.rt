@@ -1,14 +1,15 @@
 // What is in the air: frames that one end sends and another takes in.
-use crate::telling::{tell_arrived, tell_frames, tell_refusal, tell_text};
+use crate::telling::{tell_arrived, tell_frames, tell_refusal};
 use ends::{Request, Span};
 use link::LinkEnd;
+use shown::Text;
 use suite::Suite;
 
 // Memory for the frames of one message.
 #[derive(Drop)]
 pub struct Air {
-    pub frames: [u8; 512],
-    pub index: [Span; 4],
+    frames: [u8; 512],
+    index: [Span; 4],
 }
 
 impl Air {
@@ -23,21 +24,12 @@ impl Air {
         }
     }
 
-    // The frames of the message in the air: its first, and its second.
-    pub fn first(&self) -> &[u8] {
-        cut(&self.frames, self.index[0])
-    }
-
-    pub fn second(&self) -> &[u8] {
-        cut(&self.frames, self.index[1])
-    }
-}
-
-// The frame that stands somewhere, or nothing.
-fn cut(frames: &[u8], span: Span) -> &[u8] {
-    match span.cut(frames) {
-        Some(frame) => frame,
-        None => &[],
+    // Frame n of the message in the air, or nothing.
+    pub fn frame(&self, n: usize) -> &[u8] {
+        match self.index.get(n) {
+            Some(span) => span.cut(&self.frames).unwrap_or(&[]),
+            None => &[],
+        }
     }
 }
 
@@ -50,8 +42,7 @@ pub fn send_and_tell<P: Suite, G: Suite, S: Suite>(
     message: &[u8],
     air: &mut Air,
 ) -> anyhow::Result<()> {
-    print!(rt; "It sends: ")?;
-    tell_text(rt, message)?;
+    println!(rt; "It sends: {}", Text(message))?;
     let mut working = [0u8; 2560];
     match end.send(
         request,
@@ -60,7 +51,12 @@ pub fn send_and_tell<P: Suite, G: Suite, S: Suite>(
         &mut air.index,
         &mut working,
     ) {
-        Ok(count) => tell_frames(rt, suite, &air.frames, &air.index, count),
+        Ok(count) => tell_frames(
+            rt,
+            suite,
+            &air.frames,
+            &air.index[..count.min(air.index.len())],
+        ),
         Err(refusal) => tell_refusal(rt, &refusal),
     }
 }

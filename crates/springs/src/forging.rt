@@ -1,4 +1,5 @@
 // What else may come to an end: frames that nobody it knows has sent.
+use std::array;
 
 // A frame as another station would have sent it: the last octet of Address 2 differs.
 pub fn from_a_stranger(frame: &[u8]) -> [u8; 100] {
@@ -14,9 +15,7 @@ pub fn with_a_bit_changed(frame: &[u8]) -> [u8; 100] {
     forged
 }
 
+// The first octets of a frame, and zeros beyond it.
 fn copied(frame: &[u8]) -> [u8; 100] {
-    let mut copy = [0u8; 100];
-    let size = frame.len().min(100);
-    copy[0..size].copy_from_slice(&frame[0..size]);
-    copy
+    array::from_fn(|at| frame.get(at).copied().unwrap_or(0))
 }

@@ -1,9 +1,9 @@
 // A new spring: its logger and its base speak CCMP.
 use crate::air::{Air, send_and_tell};
-use crate::stations::{CCMP_KEY, EVERYONE, FAR_END, NEW_BASE, NEW_LOGGER, TKIP_KEY};
+use crate::stations::{CCMP_KEY, EVERYONE, FAR_END, NEW_BASE, NEW_LOGGER, TKIP_KEY, request};
 use crate::telling::tell_granted;
 use ccmp::Ccmp;
-use ends::{Request, Role};
+use ends::Role;
 use link::LinkEnd;
 use tkip::Tkip;
 
@@ -27,17 +27,11 @@ fn newer_reading_goes_out(rt: &HostRuntime, air: &mut Air) -> anyhow::Result<()>
         "Its group's key is installed, under TKIP.",
         logger.install(EVERYONE, TKIP_KEY, &NEW_BASE, 0, 0),
     )?;
-    let mut request = Request {
-        place: FAR_END,
-        destination: NEW_BASE,
-        source: NEW_LOGGER,
-        piece_length: 64,
-        time: 3_000,
-    };
-    send_and_tell(rt, &mut logger, &Ccmp, &request, READING, air)?;
+    let to_base = request(FAR_END, NEW_LOGGER, NEW_BASE, 3_000);
+    send_and_tell(rt, &mut logger, &Ccmp, &to_base, READING, air)?;
     println!(rt; "It is no logger's place to speak to the group.")?;
-    request.place = EVERYONE;
-    send_and_tell(rt, &mut logger, &Tkip, &request, READING, air)
+    let to_all = request(EVERYONE, NEW_LOGGER, NEW_BASE, 3_000);
+    send_and_tell(rt, &mut logger, &Tkip, &to_all, READING, air)
 }
 
 // A relay beside it, over CCMP alone: its place is emptied, and then it has nowhere to send.
@@ -54,14 +48,8 @@ fn relay_is_taken_down(rt: &HostRuntime, air: &mut Air) -> anyhow::Result<()> {
         relay.install(FAR_END, CCMP_KEY, &NEW_LOGGER, 0, 0),
     )?;
     tell_granted(rt, "It is taken down again.", relay.remove(FAR_END))?;
-    let request = Request {
-        place: FAR_END,
-        destination: NEW_LOGGER,
-        source: NEW_BASE,
-        piece_length: 64,
-        time: 4_000,
-    };
-    send_and_tell(rt, &mut relay, &Ccmp, &request, b"anyone there?", air)
+    let to_logger = request(FAR_END, NEW_BASE, NEW_LOGGER, 4_000);
+    send_and_tell(rt, &mut relay, &Ccmp, &to_logger, b"anyone there?", air)
 }
 
 pub fn new_spring(rt: &HostRuntime) -> anyhow::Result<()> {

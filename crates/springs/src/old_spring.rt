@@ -1,9 +1,9 @@
 // An old spring: its logger and its base speak TKIP.
 use crate::air::{Air, send_and_tell};
-use crate::stations::{BASE, EVERYONE, FAR_END, GROUP, LOGGER, TKIP_KEY};
+use crate::stations::{BASE, CCMP_KEY, EVERYONE, FAR_END, GROUP, LOGGER, TKIP_KEY, request};
 use crate::telling::tell_granted;
 use ccmp::Ccmp;
-use ends::{Request, Role};
+use ends::Role;
 use link::LinkEnd;
 use tkip::Tkip;
 
@@ -23,14 +23,8 @@ fn reading_goes_out(rt: &HostRuntime, air: &mut Air) -> anyhow::Result<()> {
         "Its base's key is installed, under TKIP.",
         logger.install(FAR_END, TKIP_KEY, &BASE, 0, 0),
     )?;
-    let request = Request {
-        place: FAR_END,
-        destination: BASE,
-        source: LOGGER,
-        piece_length: 64,
-        time: 1_000,
-    };
-    send_and_tell(rt, &mut logger, &Tkip, &request, READING, air)
+    let to_base = request(FAR_END, LOGGER, BASE, 1_000);
+    send_and_tell(rt, &mut logger, &Tkip, &to_base, READING, air)
 }
 
 // The base speaks to all of its loggers at once; its group suite is another than its pairwise one.
@@ -44,20 +38,14 @@ fn word_to_all(rt: &HostRuntime, air: &mut Air) -> anyhow::Result<()> {
     tell_granted(
         rt,
         "The group's key is installed.",
-        base.install(EVERYONE, crate::stations::CCMP_KEY, &BASE, 0, 0),
+        base.install(EVERYONE, CCMP_KEY, &BASE, 0, 0),
     )?;
-    let request = Request {
-        place: EVERYONE,
-        destination: GROUP,
-        source: BASE,
-        piece_length: 64,
-        time: 2_000,
-    };
+    let to_all = request(EVERYONE, BASE, GROUP, 2_000);
     send_and_tell(
         rt,
         &mut base,
         &Ccmp,
-        &request,
+        &to_all,
         b"report at noon from now on",
         air,
     )

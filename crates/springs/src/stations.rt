@@ -1,5 +1,5 @@
 // Who takes part, and the keys that they share.
-use ends::Place;
+use ends::{Place, Request};
 use frame::Address;
 
 // The base on the ridge, which hears the old loggers; and the one beside it, which hears the new.
@@ -31,3 +31,14 @@ pub const CCMP_KEY: &[u8; 16] = b"ccmp key, 16 oct";
 pub const FAR_END: Place = Place::Pairwise(0);
 
 pub const EVERYONE: Place = Place::Group(1);
+
+// A message from one station to others, in pieces of 64 octets.
+pub fn request(place: Place, source: Address, destination: Address, time: u64) -> Request {
+    Request {
+        place,
+        destination,
+        source,
+        piece_length: 64,
+        time,
+    }
+}

@@ -1,38 +1,36 @@
 // How the story tells what it sees.
-use ends::{Arrived, Place, Refusal, Span};
+use ends::{Arrived, Refusal, Span};
 use frame::{Address, Header};
+use shown::Text;
+use std::fmt;
 use suite::Suite;
 
-// Text, as a message has it.
-pub fn tell_text(rt: &HostRuntime, message: &[u8]) -> anyhow::Result<()> {
-    for octet in message {
-        print!(rt; "{}", *octet as char)?;
-    }
-    println!(rt; "")?;
-    Ok(())
-}
+// An address, and whether it is a group's.
+#[derive(Clone, Copy)]
+struct Station(Address);
 
-fn tell_address(rt: &HostRuntime, who: &str, address: &Address) -> anyhow::Result<()> {
-    let number = address.number();
-    let kind = if address.is_group() { ", a group" } else { "" };
-    print!(rt; "{who} {number:012x}{kind}")?;
-    Ok(())
+impl fmt::Display for Station {
+    fn fmt<W: fmt::Write>(&self, f: &mut fmt::Formatter<W>) -> fmt::Result {
+        let kind = if self.0.is_group() { ", a group" } else { "" };
+        write!(f, "{}{kind}", self.0)
+    }
 }
 
 fn tell_header(rt: &HostRuntime, header: &Header) -> anyhow::Result<()> {
     let way = if header.from_ds { "from" } else { "to" };
-    let sequence = header.sequence;
-    let fragment = header.fragment;
     let last = if header.more_fragments {
         "more to come"
     } else {
         "the last"
     };
-    print!(rt; "    {way} a base, message {sequence}, fragment {fragment}, {last};")?;
-    tell_address(rt, " to", &header.address1)?;
-    tell_address(rt, ", from", &header.address2)?;
-    tell_address(rt, ", third address", &header.address3)?;
-    println!(rt; "")?;
+    println!(rt;
+        "    {way} a base, message {}, fragment {}, {last}; to {}, from {}, third address {}",
+        header.sequence,
+        header.fragment,
+        Station(header.address1),
+        Station(header.address2),
+        Station(header.address3)
+    )?;
     Ok(())
 }
 
@@ -42,7 +40,7 @@ fn tell_frame<S: Suite>(rt: &HostRuntime, suite: &S, frame: &[u8]) -> anyhow::Re
         return Ok(println!(rt; "    no data frame")?);
     };
     tell_header(rt, &header)?;
-    match suite.head(&frame[24..]) {
+    match suite.head(&frame[Header::LENGTH..]) {
         Ok((counter, key_id)) => Ok(println!(rt;
             "    sealed under counter {counter}, key ID {key_id}"
         )?),
@@ -56,12 +54,9 @@ pub fn tell_frames<S: Suite>(
     suite: &S,
     frames: &[u8],
     index: &[Span],
-    count: usize,
 ) -> anyhow::Result<()> {
-    for span in index.iter().take(count) {
-        let offset = span.offset;
-        let length = span.length;
-        println!(rt; "  {length} octets at {offset}:")?;
+    for span in index {
+        println!(rt; "  {} octets at {}:", span.length, span.offset)?;
         if let Some(frame) = span.cut(frames) {
             tell_frame(rt, suite, frame)?;
         }
@@ -88,9 +83,7 @@ fn ground(refusal: &Refusal) -> &'static str {
 }
 
 pub fn tell_refusal(rt: &HostRuntime, refusal: &Refusal) -> anyhow::Result<()> {
-    let number = refusal.number();
-    let ground = ground(refusal);
-    println!(rt; "  refused, {number}: {ground}")?;
+    println!(rt; "  refused, {}: {}", refusal.number(), ground(refusal))?;
     Ok(())
 }
 
@@ -107,30 +100,22 @@ pub fn tell_granted(
     }
 }
 
-fn tell_place(rt: &HostRuntime, place: Place) -> anyhow::Result<()> {
-    match place {
-        Place::Pairwise(n) => Ok(print!(rt; "pairwise place {n}")?),
-        Place::Group(n) => Ok(print!(rt; "group {n}")?),
-    }
-}
-
 // What became of a frame, and the message where there is one.
 pub fn tell_arrived(rt: &HostRuntime, arrived: Arrived, memory: &[u8]) -> anyhow::Result<()> {
     match arrived {
         Arrived::Held(place, fragment) => {
-            print!(rt; "  held at ")?;
-            tell_place(rt, place)?;
-            println!(rt; ": fragment {fragment}")?;
-            Ok(())
+            println!(rt; "  held at {place}: fragment {fragment}")?;
         }
         Arrived::Delivered(delivery) => {
-            let destination = delivery.destination;
-            let source = delivery.source;
-            let counter = delivery.counter;
-            print!(rt; "  delivered at ")?;
-            tell_place(rt, delivery.place)?;
-            print!(rt; ", counter {counter}, from {source:012x} to {destination:012x}: ")?;
-            tell_text(rt, &memory[0..delivery.length.min(memory.len())])
+            println!(rt;
+                "  delivered at {}, counter {}, from {:012x} to {:012x}: {}",
+                delivery.place,
+                delivery.counter,
+                delivery.source,
+                delivery.destination,
+                Text(&memory[..delivery.length.min(memory.len())])
+            )?;
         }
     }
+    Ok(())
 }

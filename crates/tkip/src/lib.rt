@@ -2,20 +2,27 @@
 #![tactic(auto)]
 
 ghost use Rattle.std.specs.Prelude.{◌≡◌, ◌+◌, ◌^◌, ◌<◌, ◌≤◌, length, take, drop};
+ghost use Rattle.frame.specs.Addresses.{address_at};
 ghost use Rattle.frame.specs.Headers.{header_length};
-ghost use Rattle.tkip.specs.Tkip.{tkip_sizes, head_octets, counter_in, code_key, under, tkip_code, tkip_seal, tkip_head, tkip_open, tkip};
+ghost use Rattle.rc4.specs.Rc4.{covered};
+ghost use Rattle.mixing.specs.Mixing.{rc4_key};
+ghost use Rattle.tkip.specs.Tkip.{head_octets, counter_in, code_key, tkip_code, tkip_seal, tkip_head, tkip_open, tkip};
 ghost use Rattle.tkip.specs.Lawful;
 ghost use Rattle.std.proofs.Common.{rules};
 
 use crc32::check_octets;
-use frame::Address;
-use mixing::rc4_key;
-use octets::{fill, put, same};
+use frame::{Address, Heading};
+use octets::{array_at, fill, put, same};
 use rc4::Rc4;
-use suite::{Direction, HeadFault, OpenFault, Sizes, Suite};
+use suite::{Direction, HeadFault, OpenFault, Suite, key_id_in, key_id_octet};
 
 #[derive(Clone, Copy)]
 pub struct Tkip;
+
+// A body has its head, a piece of 1 to 2,312 octets and its tail.
+const SHORTEST_BODY: usize = Tkip::HEAD_LENGTH + 1 + Tkip::TAIL_LENGTH;
+
+const LONGEST_BODY: usize = Tkip::HEAD_LENGTH + 2312 + Tkip::TAIL_LENGTH;
 
 fn head_octets(key_id: u8, counter: u64) -> [u8; 8]
     requires { key_id ≤ 3 }
@@ -27,7 +34,7 @@ fn head_octets(key_id: u8, counter: u64) -> [u8; 8]
         tsc1,
         (tsc1 | 0x20) & 0x7f,
         tsc0,
-        key_id * 64 + 32,
+        key_id_octet(key_id),
         tsc2,
         tsc3,
         tsc4,
@@ -54,31 +61,27 @@ fn code_key(direction: Direction, key: &[u8]) -> &[u8]
     }
 }
 
-// Octets under the RC4 key of a frame, in their place.
-fn cover(key: &[u8], header: &[u8], counter: u64, octets: &mut [u8])
+// The RC4 key of a frame, mixed for the transmitter, Address 2, and the counter.
+fn frame_key(key: &[u8], header: &[u8], counter: u64) -> [u8; 16]
     requires key { length key.now ≡ 32 }
     requires header { length header.now ≡ header_length }
     requires counter { counter < 2 ^ 48 }
-    ensures { octets.new ≡ under key.now header.now counter octets.old }
+    ensures { result ≡ rc4_key key.now (address_at 10 header.now) counter }
 {
-    rc4::cover(&rc4_key(key, &Address::at(header, 10), counter), octets);
+    mixing::rc4_key(key, &Address::at(header, 10), counter)
 }
 
 // RC4 taken away from what stands beyond the head: writes the piece, and answers the CRC-32 behind it.
-fn bare(key: &[u8], header: &[u8], counter: u64, sealed: &[u8], piece: &mut [u8]) -> [u8; 4]
-    requires key { length key.now ≡ 32 }
-    requires header { length header.now ≡ header_length }
-    requires counter { counter < 2 ^ 48 }
-    requires sizes { length sealed.now ≡ length piece.old + 4 }
-    ensures check { result ≡ drop (length piece.old) (under key.now header.now counter sealed.now) }
-    ensures piece { piece.new ≡ take (length piece.old) (under key.now header.now counter sealed.now) }
+fn bare(frame_key: &[u8; 16], sealed: &[u8], piece: &mut [u8]) -> [u8; 4]
+    requires { length sealed.now ≡ length piece.old + 4 }
+    ensures check { result ≡ drop (length piece.old) (covered frame_key.now sealed.now) }
+    ensures piece { piece.new ≡ take (length piece.old) (covered frame_key.now sealed.now) }
 {
-    let count = piece.len();
-    let mut rc4 = Rc4::keyed(&rc4_key(key, &Address::at(header, 10), counter));
-    piece.copy_from_slice(&sealed[0..count]);
+    let (front, check) = sealed.split_at(piece.len());
+    let mut rc4 = Rc4::keyed(frame_key);
+    piece.copy_from_slice(front);
     rc4.apply(piece);
-    let mut check = [0u8; 4];
-    check.copy_from_slice(&sealed[count..]);
+    let mut check = array_at(check, 0);
     rc4.apply(&mut check);
     check
 }
@@ -86,15 +89,23 @@ fn bare(key: &[u8], header: &[u8], counter: u64, sealed: &[u8], piece: &mut [u8]
 impl Suite for Tkip {
     const HEAD_LENGTH: usize = 8;
 
+    ghost HEAD_LENGTH = { 8 };
+
     const TAIL_LENGTH: usize = 4;
+
+    ghost TAIL_LENGTH = { 4 };
 
     const CODE_LENGTH: usize = 8;
 
+    ghost CODE_LENGTH = { 8 };
+
     const KEY_LENGTH: usize = 32;
+
+    ghost KEY_LENGTH = { 32 };
 
     const TOP_COUNTER: u64 = 0xffff_ffff_ffff;
 
-    ghost sizes = { tkip_sizes };
+    ghost TOP_COUNTER = { 0xFFFF_FFFF_FFFF };
 
     ghost code = { tkip_code };
 
@@ -110,33 +121,15 @@ impl Suite for Tkip {
 
     ghost keeps = { Lawful.keeps };
 
-    fn sizes() -> Sizes {
-        Sizes {
-            head: Self::HEAD_LENGTH,
-            tail: Self::TAIL_LENGTH,
-            code: Self::CODE_LENGTH,
-            key: Self::KEY_LENGTH,
-            top: Self::TOP_COUNTER,
-        }
-    }
-
     fn code(
         &self,
         key: &[u8],
         direction: Direction,
-        destination: &Address,
-        source: &Address,
-        priority: u8,
+        heading: &Heading,
         message: &[u8],
         out: &mut [u8],
     ) {
-        let code = michael::code(
-            code_key(direction, key),
-            destination,
-            source,
-            priority,
-            message,
-        );
+        let code = michael::code(code_key(direction, key), heading, message);
         put(out, 0, &code);
     }
 
@@ -149,21 +142,19 @@ impl Suite for Tkip {
         piece: &[u8],
         out: &mut [u8],
     ) {
-        let end = 8 + piece.len();
+        let end = Self::HEAD_LENGTH + piece.len();
         put(out, 0, &head_octets(key_id, counter));
-        put(out, 8, piece);
+        put(out, Self::HEAD_LENGTH, piece);
         put(out, end, &check_octets(piece));
-        cover(key, header, counter, &mut out[8..end + 4]);
+        rc4::cover(
+            &frame_key(key, header, counter),
+            &mut out[Self::HEAD_LENGTH..end + Self::TAIL_LENGTH],
+        );
     }
 
     fn head(&self, body: &[u8]) -> Result<(u64, u8), HeadFault> {
-        if body.len() < 13 {
-            return Err(HeadFault::Short);
-        }
-        if body[3] / 32 % 2 != 1 {
-            return Err(HeadFault::Unmarked);
-        }
-        Ok((counter_in(body), body[3] / 64))
+        let key_id = key_id_in(body, SHORTEST_BODY)?;
+        Ok((counter_in(body), key_id))
     }
 
     fn open(
@@ -174,19 +165,15 @@ impl Suite for Tkip {
         out: &mut [u8],
     ) -> Result<usize, OpenFault> {
         let size = body.len();
-        if size > 2324 {
+        if size > LONGEST_BODY {
             return Err(OpenFault::Long);
         }
-        let count = size - 12;
-        let check = bare(
-            key,
-            header,
-            counter_in(body),
-            &body[8..],
-            &mut out[0..count],
-        );
-        if !same(&check_octets(&out[0..count]), &check) {
-            fill(&mut out[0..count], 0);
+        let count = size - Self::HEAD_LENGTH - Self::TAIL_LENGTH;
+        let piece = &mut out[..count];
+        let frame_key = frame_key(key, header, counter_in(body));
+        let check = bare(&frame_key, &body[Self::HEAD_LENGTH..], piece);
+        if !same(&check_octets(piece), &check) {
+            fill(piece, 0);
             return Err(OpenFault::Unequal);
         }
         Ok(count)

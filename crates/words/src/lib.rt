@@ -1,4 +1,6 @@
 // Eight octets as one word, the least significant octet first: what code that touches every octet works on.
+// Kept: std has no From between octets and words, and an own type of word with that conversion is no plainer than these
+// three, which prove once that std's conversions are the definitions `little`, `little_octets` and `xored`.
 #![tactic(auto)]
 
 ghost use Rattle.std.specs.Prelude.{◌≡◌};

@@ -1,10 +1,13 @@
-use Rattle.std.proofs.Common.{◌≡◌, ℕ, ◌+◌, ◌<◌, List, [], map, length, get_or, set, sym, refl, ap, ◌∙◌, subst, add-one, arith, length-set}
+use Rattle.std.proofs.Common.{◌≡◌, ℕ, ◌+◌, ◌<◌, List, [], map, length, get_or, set, sym, refl, ap, ◌∙◌, subst, add-one, arith, rules, length-set}
 use Rattle.std.proofs.lemmas.List.FromFn.{fill_by_all}
-use Rattle.std.proofs.lemmas.List.{get_or-map, length-map, map-set}
+use Rattle.std.proofs.lemmas.List.{length-map, map-set}
 use Rattle.std.proofs.lemmas.List.Edits.{fill_by_more}
+use Rattle.sbox.specs.Field.{xtime}
+use Rattle.aes.proofs.Rules.{constant, rcon_rule}
 use Rattle.aes.specs.Aes.{rcon, next_key, round_key, expanded}
 use Rattle.aes.specs.Words.{held, round_keys}
 use Rattle.aes.specs.declared.state.State.{State}
+use Rattle.aes.proofs.Rounds.{key_at}
 use Rattle.aes.proofs.Aes128.expand.Goals as goal
 
 -- round key n + 1, from the constant and round key n
@@ -22,17 +25,18 @@ more f ks n b within is below =
 
 pub loop-n-init : goal.loop-n-init
 unfolding round_key
-loop-n-init c = (refl, λ k h. let none : k ≡ 0 = omega arith in rw none c.from_octets-keys.ensures)
+loop-n-init c = (refl, λ k h. let none : k ≡ 0 = omega arith in rw none (c.from-keys.ensures ∙ c.load.ensures))
 
 pub loop-n-preserved : goal.loop-n-preserved
+unfolding constant rcon xtime
 loop-n-preserved c =
     let inv = c.loop-n.invariant in
     let keys = c.loop-n.keys in
     let n = c.loop-n.n in
     let key = c.args.key.now in
     let long = inv.0 in
-    let here = sym (get_or-map held keys n (record { a = 0; b = 0; c = 0; d = 0 }) [] (omega arith)) ∙ inv.1 n (omega arith) in
-    let v : held c.next_key-next.result ≡ round_key key (n + 1) = next key n _ _ _ c.round_constant.ensures here c.next_key-next.ensures in
+    let here = key_at keys n _ (omega arith) ∙ inv.1 n (omega arith) in
+    let v : held c.next_key.result ≡ round_key key (n + 1) = next key n _ _ _ (search (rules, rcon_rule)) here c.next_key.ensures in
     (length-set keys (n + 1) _ ∙ inv.0, more (round_key key) keys (n + 1) _ (omega arith) v inv.1)
 
 pub returns : goal.returns

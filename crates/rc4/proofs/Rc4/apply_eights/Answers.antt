@@ -1,6 +1,6 @@
-use Rattle.std.proofs.Common.{◌≡◌, ◌+◌, ◌-◌, ◌*◌, ◌≤◌, length, sym, ap, ◌∙◌, arith}
+use Rattle.std.proofs.Common.{◌≡◌, ◌+◌, ◌-◌, ◌*◌, ◌≤◌, length, ap, ◌∙◌, arith}
 use borrow.Rule.Slice.PartMut.{put_mid}
-use Rattle.rc4.proofs.Stream.{made, last, made-piece, made_all, last_piece, last_all}
+use Rattle.rc4.proofs.Stream.{made, last, made-piece, last_piece}
 use Rattle.rc4.proofs.Rc4.apply_eights.Goals as goal
 
 pub loop-k-preserved : goal.loop-k-preserved
@@ -19,11 +19,3 @@ loop-k-preserved c =
       ap (λ n. last n c.apply_eight.new.self ys) place ∙ ap (λ t. last (i + 8) t ys) told.state
           ∙ last_piece s xs zs i 8 (i + 8 - i) within count told.octets ∙ c.loop-k.invariant.1,
     )
-
-pub returns : goal.returns
-returns c =
-    let past : length c.loop-k.octets ≤ 8 * c.loop-k.k = omega arith in
-    record {
-      octets = sym (made_all c.loop-k.self c.loop-k.octets (8 * c.loop-k.k) past) ∙ c.loop-k.invariant.0;
-      state = sym (last_all c.loop-k.self c.loop-k.octets (8 * c.loop-k.k) past) ∙ c.loop-k.invariant.1;
-    }

@@ -1,7 +1,0 @@
-use Rattle.std.proofs.Common.{◌≡◌}
-use Rattle.aes.specs.Aes.{rounds}
-use Rattle.aes.specs.Words.{held, round_keys}
-use Rattle.aes.proofs.Aes128.encrypt_two.Given as goal
-
-abbrev pub invariant-loop-n : goal.invariant-loop-n
-invariant-loop-n l = (held l.s ≡ rounds (round_keys l.self) (held l.initial.s) l.n) × (held l.t ≡ rounds (round_keys l.self) (held l.initial.t) l.n)

@@ -1,7 +1,0 @@
-use Rattle.std.proofs.Common.{refl}
-use Rattle.aes.specs.Words.{octets, held}
-use Rattle.aes.proofs.state.State.from_word.Goals as goal
-
-pub returns : goal.returns
-unfolding octets held
-returns c = refl
