@@ -11,8 +11,14 @@ use Rattle.ends.specs.declared.places.Place.{Place}
 use Rattle.ends.specs.declared.refusals.Refusal.{Refusal}
 use Rattle.ends.specs.declared.refusals.Refusal.TheVariants.{HeadRefused, OpenRefused}
 use Rattle.ends.specs.Holding.{Filling}
-use Rattle.ends.specs.Checks.{first, then}
+use Rattle.ends.specs.Checks.{first, then, last_time}
 use Rattle.ends.specs.Arrivals.{turn_checks, opened, prior, assembly_checks}
+
+-- of a frame that was admitted, the time and the length
+pub record Admissible (time frame : ℕ) : Type 0 where
+  pub clock : time ≤ last_time
+  pub least : header_length ≤ frame
+  pub most : frame ≤ 2352
 
 -- a frame whose head the suite read, and which fits a working memory
 pub record Ready (M : Meaning) (frame : Octets) : Type 0 where

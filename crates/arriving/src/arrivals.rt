@@ -2,11 +2,10 @@
 ghost use Rattle.std.specs.Prelude.{◌≡◌, ℕ, ◌≤◌, true, length};
 ghost use Rattle.ends.specs.Places.{exists};
 ghost use Rattle.ends.specs.Holding.{held};
-ghost use Rattle.ends.specs.Checks.{then, or_refuse, settled, last_time};
+ghost use Rattle.ends.specs.Checks.{then, or_refuse, settled};
 ghost use Rattle.ends.specs.Arrivals.{at_place, over_suite};
 ghost use Rattle.ends.specs.Steps.{soon};
 ghost use Rattle.ends.specs.declared.refusals.Refusal.TheVariants.{NoMatch};
-ghost use Rattle.admission.specs.Ranges.{InRange};
 ghost use Rattle.arriving.specs.Outcomes.{Took, Arrives, finished, recorded};
 
 use crate::completing::Failure;
@@ -41,7 +40,6 @@ fn finish(
     place: Place,
     taken: Result<Arrived, Failure>,
 ) -> Result<Arrived, Refusal>
-    requires { admitted.now.time ≤ last_time }
     ensures answer { result ≡ finished (soon admitted.now.time (held state.old).failure) place admitted.now.header.now.fragment taken }
     ensures holds { held state.new ≡ recorded admitted.now.coded (held state.old) admitted.now.time taken }
 {
@@ -69,7 +67,8 @@ pub fn arrive_over<S: Suite>(
     working: &mut [u8],
     message: &mut [u8],
 ) -> Result<Arrived, Refusal>
-    requires { InRange admitted.now.time (length admitted.now.frame.now) (length working.old) (length message.old) }
+    requires room { 2560 ≤ length working.old }
+    requires memory { 2304 ≤ length message.old }
     ensures { Arrives admitted.now.coded (settled (over_suite S.Suite.means (held state.old) admitted.now.header.now admitted.now.frame.now admitted.now.time)) (held state.old) (held state.new) message.old message.new result }
 {
     let (counter, key_id) = suite.head(body_of(admitted.frame))?;

@@ -1,5 +1,6 @@
 // A frame on its way to its place.
-ghost use Rattle.arriving.specs.Gathering.{Ready};
+ghost use Rattle.std.specs.Prelude.{length};
+ghost use Rattle.arriving.specs.Gathering.{Admissible, Ready};
 
 use ends::{CodedSuites, Place, Role};
 use frame::Header;
@@ -12,6 +13,7 @@ pub struct Admitted<'a> {
     pub header: &'a Header,
     pub frame: &'a [u8],
     pub time: u64,
+    pub ghost in_range: { Admissible time (length frame.now) },
 }
 
 // A frame whose header and head were read, and the place that it is for.
