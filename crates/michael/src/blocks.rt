@@ -6,7 +6,7 @@ ghost use Rattle.michael.specs.Michael.{key_state, xswap, block, taking, chain, 
 use octets::little;
 
 // Two words, which begin as those of the key and end as those of the code.
-#[derive(Clone, Copy)]
+#[derive(Clone, Copy, PartialEq, Eq, Debug)]
 pub struct State {
     pub left: u32,
     pub right: u32,

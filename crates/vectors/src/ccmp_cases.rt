@@ -94,8 +94,8 @@ fn seals_packet(packet: &Packet, alloc: Global) -> Result<bool, AllocError> {
     let mut made = vec![in alloc; 0u8; size + 8]?;
     ccm::seal(PACKET_KEY, nonce, additional, message, &mut made);
     let mut opened = vec![in alloc; 0u8; size]?;
-    let is_open = ccm::open(PACKET_KEY, nonce, additional, sealed, &mut opened);
-    Ok(is_open && made.as_slice() == sealed && opened.as_slice() == message)
+    let answer = ccm::open(PACKET_KEY, nonce, additional, sealed, &mut opened);
+    Ok(answer.is_ok() && made.as_slice() == sealed && opened.as_slice() == message)
 }
 
 pub fn run(rt: &HostRuntime) -> io::Result<()> {

@@ -126,8 +126,7 @@ fn repeated(from: State, times: u32) -> State
 
 pub fn run(rt: &HostRuntime) -> io::Result<()> {
     for v in &BLOCKS {
-        let to = repeated(v.from, v.times);
-        tell(rt, v, to.left == v.to.left && to.right == v.to.right)?;
+        tell(rt, v, repeated(v.from, v.times) == v.to)?;
     }
     for v in &CODES {
         let code = bare_code(&v.key.to_be_bytes(), v.text.as_bytes());
