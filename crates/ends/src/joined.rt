@@ -2,6 +2,7 @@
 ghost use Rattle.std.specs.Prelude.{◌≤◌};
 
 // The first `size` octets, which are at most 2312. What is beyond them is not part of it.
+// Kept: no heap, fixed memory: a place holds its pieces itself. The length is private, and never beyond the memory.
 #[derive(Clone, Copy)]
 pub struct Joined {
     octets: [u8; 2312],
