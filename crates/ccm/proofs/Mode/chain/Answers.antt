@@ -2,7 +2,7 @@ use Rattle.std.proofs.Common.{◌≡◌, ◌/◌, ◌<◌, [], length, get_or, s
 use Rattle.aes.specs.Words.{octets}
 use Rattle.ccm.specs.Ccm.{block_of}
 use Rattle.ccm.specs.Inner.{under}
-use Rattle.ccm.proofs.Blocks.{cut, nothing, something, block_whole, chained_none, chained_next, chained_whole, chained_last}
+use Rattle.ccm.proofs.Blocks.{cut, something, block_whole, chained_none, chained_next, chained_last}
 use Rattle.ccm.proofs.Mode.chain.Goals as goal
 
 pub loop-block-init : goal.loop-block-init
@@ -16,14 +16,6 @@ loop-block-preserved c =
     let before : i < length xs / 16 = omega arith in
     let block = c.load.ensures ∙ ap (λ l. get_or l i []) cuts.front ∙ cut (length xs / 16) xs i before ∙ sym (block_whole xs i (omega arith)) in
     chained_next (under c.args.self.now.cipher) (octets c.args.start) (block_of xs) i _ _ _ c.loop-block.invariant block c.encrypt_word-mac.ensures
-
-pub returns-then-is_empty : goal.returns-then-is_empty
-returns-then-is_empty c =
-    let xs = c.args.octets.now in
-    let rest = c.as_chunks.result.1.now in
-    let all : c.loop-block.block-index ≡ length xs / 16 = omega arith in
-    chained_whole (under c.args.self.now.cipher) (octets c.args.start) xs rest c.loop-block.block-index _ all c.as_chunks.ensures.back_len
-    (nothing (length rest) _ c.is_empty.ensures c.if-is_empty.true) c.loop-block.invariant
 
 pub returns : goal.returns
 returns c =

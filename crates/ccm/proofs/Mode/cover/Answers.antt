@@ -52,13 +52,6 @@ returns-then-is_empty g c =
       tail = tail_made E nonce mode.additional.now ys _ _ c.tail.result _ (sym long) c.begin-mac.ensures (chained_whole E (octets c.begin-mac.result) ys rest c.loop-i.i _ all (omega arith) none c.loop-i.invariant.1) c.tail.ensures;
     }
 
-pub cover_last-mac-requires : goal.cover_last-mac-requires
-cover_last-mac-requires g c =
-    let rest = c.as_chunks.result.1.now in
-    let some = something (length rest) _ c.is_empty.ensures c.if-is_empty.false in
-    let size = c.as_chunks.ensures.back_len in
-    record { most = c.requires.most; some = omega arith; room = omega arith }
-
 pub returns : goal.returns
 returns g c =
     let mode = c.args.self.now in
