@@ -6,6 +6,8 @@ use shown::Text;
 use suite::Suite;
 
 // Memory for the frames of one message.
+// Kept: no plainer as one list of frames, since a send is lent these two, and lays into the second where each frame
+// stands in the first.
 #[derive(Drop)]
 pub struct Air {
     frames: [u8; 512],

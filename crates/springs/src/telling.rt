@@ -65,12 +65,12 @@ pub fn tell_frames<S: Suite>(
 }
 
 // The ground of a refusal, for the grounds that the story comes upon.
+// Kept: no plainer as a Display of the refusal, since these are the words of this story alone.
 fn ground(refusal: &Refusal) -> &'static str {
     match refusal {
         Refusal::NoSuchPlace => "a logger does not speak to a group",
         Refusal::PlaceEmpty => "nothing is installed there",
-        Refusal::SuiteBlocked => "the suite is blocked",
-        Refusal::ArrivalBlocked => "the suite is blocked",
+        Refusal::SuiteBlocked | Refusal::ArrivalBlocked => "the suite is blocked",
         Refusal::NotForThisEnd => "it is not for this end",
         Refusal::NoMatch => "no place holds that station",
         Refusal::Replayed(_, _) => "its counter was used before",
