@@ -31,7 +31,7 @@ impl From<Refusal> for Failure {
 }
 
 // The direction from which an end of this role hears.
-// Kept: no plainer: a role stands for two directions, where it sends to and where it hears from, so no `From` is the one.
+// Kept: no plainer: a role stands for two directions, the one it sends in and the one it hears from: no `From` fits.
 fn direction_to(role: Role) -> Direction
     ensures { result ≡ direction_to role }
 {
