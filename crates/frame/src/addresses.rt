@@ -39,7 +39,7 @@ impl Address {
     }
 }
 
-// By the number, since the definitions tell addresses by it. A derived `==` would say that the octets are one list, and
+// Kept: by the number, since the definitions tell addresses by it. A derived `==` would say that the octets are one list, and
 // each caller would have to show that this comes to the same.
 impl PartialEq for Address {
     ghost eq = { λ a b. number a == number b };

@@ -67,7 +67,7 @@ impl Header {
     pub fn read(frame: &[u8]) -> Result<Header, HeaderFault>
         ensures { result ≡ header_in frame.now }
     {
-        if frame.len() < 24 {
+        if frame.len() < Header::LENGTH {
             return Err(HeaderFault::Short);
         }
         if frame[0] != 8 {

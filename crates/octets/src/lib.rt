@@ -1,10 +1,12 @@
 // Octets in lent memory: copied, filled, compared, wiped; and the numbers that they write.
+// Kept: each function asks for its room, as an index does. A type for a place that fits would be made for one call, and be no
+// plainer.
 #![tactic(auto)]
 
 ghost use Rattle.std.specs.Prelude.{◌≡◌, ◌+◌, ◌≤◌, length, replicate, bit_or, bit_xor};
 ghost use Rattle.std.specs.List.{fold, zip};
 ghost use Rattle.std.specs.Str.{bytes_eq};
-ghost use Rattle.octets.specs.Octets.{part, written};
+ghost use Rattle.octets.specs.Octets.{begins, part, written};
 
 pub mod big;
 pub mod little;
@@ -24,6 +26,16 @@ pub fn array_at<const N: usize>(octets: &[u8], at: usize) -> [u8; N]
 {
     let mut array = [0u8; N];
     array.copy_from_slice(&octets[at..at + N]);
+    array
+}
+
+// Octets as an array, which zeros fill up.
+pub fn padded<const N: usize>(octets: &[u8]) -> [u8; N]
+    requires { length octets.now ≤ N }
+    ensures { result ≡ begins octets.now (replicate N 0) }
+{
+    let mut array = [0u8; N];
+    array[..octets.len()].copy_from_slice(octets);
     array
 }
 

@@ -1,4 +1,6 @@
 // Numbers in octets, the least significant first.
+// Kept: beside the same two of `big`. A trait of orders would be no plainer: its functions would each need a law, and these are
+// three lines at most.
 ghost use Rattle.std.specs.Prelude.{◌≡◌, ◌+◌, ◌^◌, ◌<◌, ◌≤◌, length};
 ghost use Rattle.octets.specs.Octets.{little, little_octets, part, written};
 

@@ -14,6 +14,8 @@ use crate::faults::{HeadFault, OpenFault};
 use crate::sizes::{Direction, Sizes};
 use frame::Heading;
 
+// Kept: each function asks for the key's length. A type of keys would be no plainer: an end holds 32 octets whatever its
+// suites are, and lends a part.
 pub trait Suite {
     const HEAD_LENGTH: usize;
 
