@@ -21,3 +21,9 @@ pub const PAIRWISE_PLACES: usize = 16;
 
 // The last time that a clock may show, in milliseconds: 2^62.
 pub const LAST_TIME: u64 = 0x4000_0000_0000_0000;
+
+// The longest message, its code not counted.
+pub const LONGEST_MESSAGE: usize = 2304;
+
+// How long the working memory is that a send or an arrival is lent.
+pub const WORKING_LENGTH: usize = 2560;

@@ -10,5 +10,5 @@ pub mod suites;
 pub use consequences::laws_follow;
 pub use faults::{HeadFault, OpenFault, PieceFault};
 pub use heads::{key_id_in, key_id_octet};
-pub use sizes::{Direction, Sizes};
+pub use sizes::{Direction, LONGEST_PIECE, Sizes};
 pub use suites::Suite;

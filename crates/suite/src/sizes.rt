@@ -1,5 +1,8 @@
 // The numbers of a suite, and which way a message goes.
 
+// The longest piece that is sealed.
+pub const LONGEST_PIECE: usize = 2312;
+
 // The five numbers of a suite: how many octets stand before a sealed piece, after it, after a message (its code), how
 // many a key has, and the highest counter.
 #[derive(Clone, Copy, Debug)]
