@@ -5,8 +5,12 @@ ghost use Rattle.ends.specs.Checks.{first};
 ghost use Rattle.ends.specs.Arrivals.{range_checks, stranger, coded_for, header_checks, admitted};
 ghost use Rattle.admission.specs.Ranges.{InRange};
 
-use ends::{CodedSuites, LAST_TIME, Refusal, State};
+use ends::{CodedSuites, LAST_TIME, LONGEST_MESSAGE, Refusal, State, WORKING_LENGTH};
 use frame::{Address, Header};
+use suite::LONGEST_PIECE;
+
+// A header, the longest piece, and eight octets at most before it and behind it, whatever the suite.
+const LONGEST_FRAME: usize = Header::LENGTH + 8 + LONGEST_PIECE + 8;
 
 // How long the two memories are that an arrival is lent.
 #[derive(Clone, Copy, Debug)]
@@ -23,16 +27,16 @@ fn check_ranges(time: u64, frame: usize, lengths: Lengths) -> Result<(), Refusal
     if time > LAST_TIME {
         return Err(Refusal::ClockRange);
     }
-    if lengths.working < 2560 {
+    if lengths.working < WORKING_LENGTH {
         return Err(Refusal::MemoryShort);
     }
-    if lengths.message < 2304 {
+    if lengths.message < LONGEST_MESSAGE {
         return Err(Refusal::MemoryShort);
     }
     if frame < Header::LENGTH {
         return Err(Refusal::FrameLength);
     }
-    if frame > 2352 {
+    if frame > LONGEST_FRAME {
         return Err(Refusal::FrameLength);
     }
     Ok(())

@@ -32,6 +32,7 @@ fn empty(state: &mut State, coded: CodedSuites)
 }
 
 // Records a code that failed at this time. A second within a minute begins a block: whether it did.
+// Kept: state, suites and time one by one: `admit` reads the state and `fail` changes it, so one struct serves not both.
 pub fn fail(state: &mut State, coded: CodedSuites, time: u64) -> bool
     requires { time ≤ last_time }
     ensures answer { result ≡ soon time (held state.old).failure }

@@ -1,4 +1,7 @@
 // A frame at an end.
+// Kept: the two lent memories one by one, each function asking for their lengths, here and in completing.rt and joining.rt.
+// No plainer: a struct of two `&mut` with the lengths as ghost fields would have to be taken apart and put together at
+// each step, and each contract says what the message memory holds before and after.
 ghost use Rattle.std.specs.Prelude.{◌≡◌, ℕ, ◌≤◌, true, length};
 ghost use Rattle.ends.specs.Places.{exists};
 ghost use Rattle.ends.specs.Holding.{held};
@@ -63,7 +66,6 @@ pub fn arrive_over<S: Suite>(
     suite: &S,
     state: &mut State,
     admitted: &Admitted,
-    // Kept: no plainer: were the two memories one struct, each contract would have to say that it holds the same two.
     working: &mut [u8],
     message: &mut [u8],
 ) -> Result<Arrived, Refusal>

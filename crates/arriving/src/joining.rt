@@ -7,11 +7,9 @@ ghost use Rattle.arriving.specs.Gathering.{Gives, gathered};
 
 use crate::incoming::{Hearing, Incoming};
 use crate::pieces::refusal_at;
-use ends::{Installation, Joined, Partial, Refusal};
+use ends::{Installation, Joined, LONGEST_MESSAGE, Partial, Refusal};
 use frame::Header;
 use suite::Suite;
-
-const LONGEST_MESSAGE: usize = 2304;
 
 // What was joined before a piece: nothing before fragment 0.
 fn prior<'a>(installation: &'a Installation, header: &Header) -> &'a [u8]

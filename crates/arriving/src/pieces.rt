@@ -26,7 +26,8 @@ pub fn body_of(frame: &[u8]) -> &[u8]
     &frame[Header::LENGTH..]
 }
 
-// The refusal that a piece's fault is: a fault knows neither place nor fragment.
+// The refusal that a piece's fault is.
+// Kept: no `From`: a fault knows neither place nor fragment.
 pub fn refusal_at(place: Place, fragment: u8, fault: PieceFault) -> Refusal
     ensures { result ≡ refused_at place fragment fault }
 {
@@ -51,7 +52,6 @@ impl<S: Suite> Hearing<'_, S> {
         let frame = self.incoming.frame;
         let key = key_for::<S>(installation);
         let header = &frame[..Header::LENGTH];
-        let size = self.suite.open(key, header, body_of(frame), working)?;
-        Ok(size)
+        Ok(self.suite.open(key, header, body_of(frame), working)?)
     }
 }

@@ -14,6 +14,7 @@ fn follows(before: u64, after: u64) -> bool
     before.checked_add(1) == Some(after)
 }
 
+// Kept: no plainer by a struct of three addresses: the header and the definitions name them one by one.
 fn has_addresses(partial: &Partial, header: &Header) -> bool
     ensures { result ≡ all (same_address partial.now.address1 header.now.address1 ∷ same_address partial.now.address2 header.now.address2 ∷ same_address partial.now.address3 header.now.address3 ∷ []) }
 {

@@ -2,6 +2,7 @@
 use crate::places::Place;
 
 // A message that is whole, and whose code agrees.
+// Kept: no heap: the message begins lent memory; and addresses stay numbers, as the laws of deliveries have them.
 #[derive(Clone, Copy, PartialEq, Eq, Debug)]
 pub struct Delivery {
     pub place: Place,

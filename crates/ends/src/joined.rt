@@ -1,6 +1,8 @@
 // Octets joined in fixed memory.
 ghost use Rattle.std.specs.Prelude.{◌≤◌};
 
+use octets::padded;
+
 // The first `size` octets, which are at most 2312. What is beyond them is not part of it.
 // Kept: no heap, fixed memory: a place holds its pieces itself. The length is private, and never beyond the memory.
 #[derive(Clone, Copy)]
@@ -19,10 +21,8 @@ impl Joined {
         requires { length octets.now ≤ 2312 }
         ensures { octets_in result ≡ octets.now }
     {
-        let mut memory = [0; 2312];
-        memory[..octets.len()].copy_from_slice(octets);
         Joined {
-            octets: memory,
+            octets: padded(octets),
             size: octets.len(),
         }
     }

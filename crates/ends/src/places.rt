@@ -33,6 +33,7 @@ pub struct Partial {
 #[derive(Clone, Copy)]
 pub struct Installation {
     // the key, and zeros beyond it
+    // Kept: no heap, fixed memory: the longest key of a suite. How much of it is the key says the suite.
     pub key: [u8; 32],
     // the far end's; of a group, the base's
     pub address: Address,

@@ -31,6 +31,7 @@ pub struct InstallRequest<'a> {
 }
 
 // Where a frame stands in the memory of frames.
+// Kept: no heap, fixed memory: frames stand end to end in memory that is lent.
 #[derive(Clone, Copy, PartialEq, Eq, Debug)]
 pub struct Span {
     pub offset: usize,
@@ -38,6 +39,12 @@ pub struct Span {
 }
 
 impl Span {
+    // Of a frame that is not there yet.
+    pub const NOWHERE: Span = Span {
+        offset: 0,
+        length: 0,
+    };
+
     // The frame that stands there, where the memory reaches that far.
     pub fn cut<'a>(&self, frames: &'a [u8]) -> Option<&'a [u8]>
         ensures { MatchOption result (length frames.now < self.now.offset + self.now.length) (λ frame. frame.now ≡ part self.now.offset self.now.length frames.now) }

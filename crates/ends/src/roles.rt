@@ -1,4 +1,7 @@
 // What an end holds, whatever its suites are.
+ghost use Rattle.std.specs.Prelude.{◌≡◌};
+ghost use Rattle.ends.specs.Places.{is_base};
+
 use crate::places::Installation;
 use frame::Address;
 
@@ -7,6 +10,14 @@ use frame::Address;
 pub enum Role {
     Base,
     Logger,
+}
+
+impl Role {
+    pub fn is_base(self) -> bool
+        ensures { result ≡ is_base self }
+    {
+        self == Role::Base
+    }
 }
 
 // Which of an end's two suites put a code behind a message: only these are blocked, and emptied by a block.

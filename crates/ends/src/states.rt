@@ -2,7 +2,7 @@
 ghost use Rattle.std.specs.Prelude.{◌≡◌, ◌<◌, ◌≤◌, true, length, None, IfSome, slice_index_or};
 ghost use Rattle.std.specs.List.{position};
 ghost use Rattle.std.specs.Option.{option_copied};
-ghost use Rattle.ends.specs.Places.{exists, is_base};
+ghost use Rattle.ends.specs.Places.{exists};
 ghost use Rattle.ends.specs.Holding.{held, filled, is_filled, holds, lowest, place_of_peer, with_place};
 ghost use Rattle.ends.specs.Checks.{blocked};
 ghost use Rattle.ends.specs.Installs.{new};
@@ -11,14 +11,6 @@ use crate::PAIRWISE_PLACES;
 use crate::places::{Installation, Place};
 use crate::roles::{Role, State};
 use frame::Address;
-
-impl Role {
-    pub fn is_base(self) -> bool
-        ensures { result ≡ is_base self }
-    {
-        self == Role::Base
-    }
-}
 
 impl State {
     // What a new end holds.
@@ -37,6 +29,8 @@ impl State {
     }
 
     // What a place holds.
+    // Kept: each function asks that there is such a place, since a caller may name any. A type of places that exist would
+    // be no plainer: a refusal and a delivery name the place, so it would be made into a `Place` again.
     pub fn slot(&self, place: Place) -> Option<&Installation>
         requires { exists place ≡ true }
         ensures { filled (option_copied result) ≡ (held self.now).at place }

@@ -6,10 +6,11 @@ ghost use Rattle.ends.specs.Places.{exists};
 ghost use Rattle.ends.specs.Holding.{held, with_place};
 ghost use Rattle.ends.specs.Calls.{asked};
 ghost use Rattle.ends.specs.Checks.{first};
-ghost use Rattle.ends.specs.Installs.{new, make_checks, if_granted, misplaced, peer_held, install_checks, installed, kept_key, remove_checks};
+ghost use Rattle.ends.specs.Installs.{new, make_checks, if_granted, misplaced, peer_held, install_checks, installed, remove_checks};
 
 use ends::{InstallRequest, Installation, LAST_TIME, Place, Refusal, Role, State};
 use frame::Address;
+use octets::padded;
 use suite::Sizes;
 
 // Makes a new end of any that is lent.
@@ -78,16 +79,6 @@ fn check_install(state: &State, sizes: &Sizes, request: &InstallRequest) -> Resu
     Ok(())
 }
 
-// A key as a place keeps it.
-fn kept_key(key: &[u8]) -> [u8; 32]
-    requires { length key.now ≤ 32 }
-    ensures { result ≡ kept_key key.now }
-{
-    let mut octets = [0; 32];
-    octets[..key.len()].copy_from_slice(key);
-    octets
-}
-
 // Fills a place: the first counter sent is 1, and what is delivered must come above the start.
 pub fn install(state: &mut State, sizes: &Sizes, request: &InstallRequest) -> Result<(), Refusal>
     requires { sizes.now.key ≤ 32 }
@@ -96,7 +87,7 @@ pub fn install(state: &mut State, sizes: &Sizes, request: &InstallRequest) -> Re
 {
     check_install(state, sizes, request)?;
     let installation = Installation {
-        key: kept_key(request.key),
+        key: padded(request.key),
         address: request.address,
         send: 1,
         replay: request.start,

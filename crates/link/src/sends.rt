@@ -13,8 +13,8 @@ use sending::send_over;
 use suite::Suite;
 
 impl<P: Suite, G: Suite> LinkEnd<P, G> {
-    // Sends a message: its frames begin their memory, end to end, and a pair of offset and length for each begins the
-    // index. Working memory holds only zeros afterwards, however the call ends.
+    // Sends a message: its frames begin their memory, end to end, and a `Span` for each begins the index. Working memory
+    // holds only zeros afterwards, however the call ends.
     pub fn send(
         &mut self,
         request: &Request,

@@ -5,19 +5,14 @@ ghost use Rattle.ends.specs.Checks.{first};
 ghost use Rattle.ends.specs.Sends.{pieces, request_checks, length_checks, supply_checks};
 
 use crate::asked::{Asked, Lengths};
-use ends::{LAST_TIME, Refusal};
+use ends::{LAST_TIME, LONGEST_MESSAGE, Refusal, WORKING_LENGTH};
 use frame::Header;
-
-const LONGEST_MESSAGE: usize = 2304;
+use suite::LONGEST_PIECE;
 
 const SHORTEST_PIECE: usize = 64;
 
-const LONGEST_PIECE: usize = 2312;
-
 // A fragment number has four bits.
 const MOST_PIECES: usize = 16;
-
-const WORKING_LENGTH: usize = 2560;
 
 // How many pieces so many octets make.
 pub fn pieces(size: usize, piece_length: usize) -> usize

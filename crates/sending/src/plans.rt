@@ -19,6 +19,7 @@ const SEQUENCE_NUMBERS: u16 = 4096;
 #[derive(Clone, Copy)]
 pub struct Outgoing {
     pub plan: Plan,
+    // Kept: no heap, fixed memory: the longest key of a suite. How much of it is the key says the suite.
     pub key: [u8; 32],
 }
 
