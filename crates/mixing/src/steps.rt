@@ -6,7 +6,7 @@ ghost use Rattle.mixing.specs.Mixing.{word, octets_of, around, started, round_ke
 
 use crate::substitution::substitute;
 use frame::Address;
-use octets::{little, put};
+use octets::{array_at, little, put};
 use std::array;
 
 // Word n of octets.
@@ -14,7 +14,7 @@ fn word_at(octets: &[u8], n: usize) -> u16
     requires { 2 * n + 2 ≤ length octets.now }
     ensures { result ≡ word octets.now n }
 {
-    little::number_at::<2>(octets, 2 * n) as u16
+    u16::from_le_bytes(array_at(octets, 2 * n))
 }
 
 // The first N words of octets.
