@@ -83,8 +83,8 @@ impl Rc4 {
         ensures state { self.new ≡ after 8 self.old }
     {
         let mask = self.next_word();
-        // Kept: the bar is the speed that it had. By `array_at::<8>` RC4 runs at 0.85 to 0.86 of the speed of the C that takes
-        // eight octets at a time, and so at 0.87 to 0.88 (four runs).
+        // Kept: the bar is the speed that it had. By `array_at::<8>` RC4 runs at 0.86 of the speed of the C that takes eight
+        // octets at a time, and so at 0.88 (medians of four runs).
         let plain = [
             octets[0], octets[1], octets[2], octets[3], octets[4], octets[5], octets[6], octets[7],
         ];
