@@ -32,6 +32,7 @@ pub fn encrypt_once(key: &[u8; 16], block: &[u8; 16]) -> [u8; 16]
 }
 
 // The block of sixteen octets, as a word.
+// Kept: no From, since it takes a slice that has to be of sixteen octets.
 pub fn load(block: &[u8]) -> u128
     requires { length block.now ≡ 16 }
     ensures { octets result ≡ block.now }
@@ -70,6 +71,8 @@ impl Aes128 {
         ensures { round_keys result ≡ expanded key.now }
     {
         let mut keys = [State::from(load(key)); 11];
+        // Kept: by index, since each key is made of the one before it in the same array, and nothing is known of what an array
+        // ends as that is lent to a zip.
         for (n, x) in RCON.iter().enumerate() {
             keys[n + 1] = next_key(*x, keys[n]);
         }

@@ -10,7 +10,7 @@ ghost use Rattle.ccm.specs.Ccm.{block_of, blocks, numbered, counter_block, first
 ghost use Rattle.ccm.specs.Inner.{under, WholeBlocks, filled, plain};
 
 use aes::{Aes128, load, store};
-use octets::{array_at, big, fill, put, same};
+use octets::{array_at, big, fill, padded, put, same};
 
 // The tail is not the one that the message, the additional data and the nonce have under the key.
 #[derive(Clone, Copy, PartialEq, Eq, Debug)]
@@ -31,9 +31,7 @@ fn filled_word(octets: &[u8]) -> u128
     requires { length octets.now ≤ 16 }
     ensures { word_octets result ≡ filled octets.now }
 {
-    let mut block = [0u8; 16];
-    put(&mut block, 0, octets);
-    load(&block)
+    load(&padded::<16>(octets))
 }
 
 // What a message is sealed or opened under: a key, expanded once, a nonce and additional data.
@@ -125,6 +123,8 @@ impl<'a> Mode<'a> {
     }
 
     // Puts the last octets of a text, which fill no block, under the key stream, and chains them.
+    // Kept: here and in `cover`, a constant in place of a closure. A closure that picks the plain block would be no plainer:
+    // the contract would have to say what it picks, where now it says `plain OPENING`.
     fn cover_last<const OPENING: bool>(&self, mac: u128, text: &[u8], out: &mut [u8]) -> u128
         requires most { length text.now < 65536 }
         requires some { 16 * (length text.now / 16) < length text.now }
@@ -156,7 +156,7 @@ impl<'a> Mode<'a> {
         for (i, block) in whole.iter().enumerate() {
             let block = load(block);
             let covered = block ^ self.stream((i + 1) as u16);
-            // Kept: written by index, since as_chunks_mut says nothing of what the slice ends as.
+            // Kept: written by index, since as_chunks_mut and chunks_exact_mut say nothing of what the slice ends as.
             put(out, 16 * i, &store(covered));
             let plain = if OPENING { covered } else { block };
             mac = self.cipher.encrypt_word(mac ^ plain);

@@ -6,15 +6,17 @@ ghost use Rattle.std.proofs.Common.{rules};
 use crate::fields;
 use frame::Heading;
 use octets::{array_at, put};
-use suite::{Direction, HeadFault, OpenFault, Suite, key_id_in};
+use suite::{Direction, HeadFault, LONGEST_PIECE, OpenFault, Suite, key_id_in};
 
 #[derive(Clone, Copy)]
 pub struct Ccmp;
 
 // A body has its head, a piece of 1 to 2,312 octets and its tail.
+// Kept: two constants for each suite: in the trait they would be functions, whose values the head of a suite would have to
+// look up.
 const SHORTEST_BODY: usize = Ccmp::HEAD_LENGTH + 1 + Ccmp::TAIL_LENGTH;
 
-const LONGEST_BODY: usize = Ccmp::HEAD_LENGTH + 2312 + Ccmp::TAIL_LENGTH;
+const LONGEST_BODY: usize = Ccmp::HEAD_LENGTH + LONGEST_PIECE + Ccmp::TAIL_LENGTH;
 
 impl Suite for Ccmp {
     const HEAD_LENGTH: usize = 8;

@@ -3,7 +3,7 @@ ghost use Rattle.std.specs.Prelude.{◌≡◌, map, length};
 ghost use Rattle.std.specs.Int.{w32, from_le_bytes};
 ghost use Rattle.michael.specs.Michael.{key_state, xswap, block, taking, chain, code_octets};
 
-use octets::little;
+use octets::array_at;
 
 // Two words, which begin as those of the key and end as those of the code.
 #[derive(Clone, Copy, PartialEq, Eq, Debug)]
@@ -26,8 +26,8 @@ impl State {
         requires { length key.now ≡ 8 }
         ensures { result ≡ key_state key.now }
     {
-        let left = little::number_at::<4>(key, 0) as u32;
-        let right = little::number_at::<4>(key, 4) as u32;
+        let left = u32::from_le_bytes(array_at(key, 0));
+        let right = u32::from_le_bytes(array_at(key, 4));
         State { left, right }
     }
 
@@ -72,6 +72,7 @@ impl State {
     }
 
     // Both words in octets.
+    // Kept: private, and one of two steps of `end`: a `From` of the public state would say that any state is a code.
     pub(crate) fn octets(self) -> [u8; 8]
         ensures { result ≡ code_octets self }
     {

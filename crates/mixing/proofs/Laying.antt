@@ -1,29 +1,26 @@
--- Words laid out in a memory, one after another.
-use Rattle.std.proofs.Common.{◌≡◌, ℕ, ◌+◌, ◌*◌, ◌<◌, ◌≤◌, List, [], ◌∷◌, ◌++◌, length, get_or, take, sym, refl, ap, ◌∙◌, arith}
-use Rattle.std.proofs.lemmas.List.{length-take-le, take_more}
-use Rattle.octets.specs.Octets.{Octets, little_octets, written}
-use Rattle.octets.proofs.Writing.{written_on}
+-- The octets of words.
+use Rattle.std.proofs.Common.{◌≡◌, ℕ, zero, suc, ◌*◌, ◌<◌, List, [], ◌∷◌, ◌++◌, length, get_or, refl, ap, ◌∙◌, arith}
+use Rattle.std.specs.Array.{IsMapOf}
+use Rattle.std.specs.Fn.{Mut, Called}
+use Rattle.std.specs.List.{flat_map}
+use Rattle.octets.specs.Octets.{Octets, little_octets}
 use Rattle.mixing.specs.Mixing.{octets_of}
 
 pub length-OctetsOf : (ws : List ℕ) → length (octets_of ws) ≡ 2 * length ws
 length-OctetsOf [] = refl
 length-OctetsOf (w ∷ ws) = let rest = length-OctetsOf ws in omega arith
 
-OctetsOf_push : (ws : List ℕ) (w : ℕ) → octets_of (ws ++ (w ∷ [])) ≡ octets_of ws ++ little_octets 2 w
-OctetsOf_push [] w = refl
-OctetsOf_push (v ∷ ws) w = ap (λ rest. little_octets 2 v ++ rest) (OctetsOf_push ws w)
+-- the octets of each word, one after another
+pub flattened : (ws : List ℕ) (ys : List Octets) → length ys ≡ length ws → ((i : ℕ) → i < length ws → get_or ys i [] ≡ little_octets 2 (get_or ws i 0)) → flat_map (λ x. x) ys ≡ octets_of ws
+flattened [] [] long each = refl
+flattened [] (y ∷ ys) long each = absurd (omega arith)
+flattened (w ∷ ws) [] long each = absurd (omega arith)
+flattened (w ∷ ws) (y ∷ ys) long each =
+    let rest = flattened ws ys (omega arith) (λ i below. each (suc i) (omega arith)) in
+    ap (λ x. x ++ flat_map (λ z. z) ys) (each zero (omega arith)) ∙ ap (λ l. little_octets 2 w ++ l) rest
 
--- the first n words stand in the memory
-abbrev pub Laid : ℕ → List ℕ → Octets → ℕ → Octets → Type 0
-Laid at ws old n memory = memory ≡ written at (octets_of (take n ws)) old
-
-pub laid_more : (at : ℕ) (ws : List ℕ) (old : Octets) (n : ℕ) (memory after : Octets) → at ≤ length old → n < length ws → Laid at ws old n memory → after ≡ written (at + 2 * n) (little_octets 2 (get_or ws n 0)) memory → Laid at ws old (n + 1) after
-laid_more at ws old n memory after inside h laid e =
-    let so_far = octets_of (take n ws) in
-    let w = get_or ws n 0 in
-    let place : at + 2 * n ≡ at + length so_far = let long = length-OctetsOf (take n ws) in let short = length-take-le n ws (omega arith) in omega arith in
-    e
-    ∙ ap (written (at + 2 * n) (little_octets 2 w)) laid
-    ∙ ap (λ here. written here (little_octets 2 w) (written at so_far old)) place
-    ∙ written_on at so_far (little_octets 2 w) old inside
-    ∙ ap (λ xs. written at xs old) (sym (OctetsOf_push (take n ws) w) ∙ sym (ap octets_of (take_more ws n 0 h)))
+-- the same, of words that a function turned into their octets
+pub mapped : {F : Type 0} (g : Mut F (ℕ × Unit {0}) Octets) (f : F) (ws : List ℕ) (ys : List Octets) (n : ℕ) → IsMapOf g f ws ys n → length ws ≡ n → ((p q : F) (w : ℕ) (y : Octets) → Called g p (w, tt) y q → y ≡ little_octets 2 w) → flat_map (λ x. x) ys ≡ octets_of ws
+mapped g f ws ys n made long acts =
+    let same = made.long in
+    flattened ws ys (omega arith) (λ i below. acts _ _ (get_or ws i 0) (get_or ys i []) (made.at i 0 [] (omega arith)).2)

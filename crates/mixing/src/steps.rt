@@ -1,12 +1,11 @@
 // The steps of the two phases, on words in place.
 ghost use Rattle.std.specs.Prelude.{◌≡◌, ℕ, ◌+◌, ◌*◌, ◌%◌, ◌^◌, ◌<◌, ◌≤◌, map, length};
 ghost use Rattle.std.specs.List.{range_with_len};
-ghost use Rattle.octets.specs.Octets.{written};
-ghost use Rattle.mixing.specs.Mixing.{word, octets_of, around, started, round_keys, rounded, stirred, front, seeded};
+ghost use Rattle.mixing.specs.Mixing.{word, around, started, round_keys, rounded, stirred, front, seeded};
 
 use crate::substitution::substitute;
 use frame::Address;
-use octets::{little, put};
+use octets::{array_at, put};
 use std::array;
 
 // Word n of octets.
@@ -14,7 +13,7 @@ fn word_at(octets: &[u8], n: usize) -> u16
     requires { 2 * n + 2 ≤ length octets.now }
     ensures { result ≡ word octets.now n }
 {
-    little::number_at::<2>(octets, 2 * n) as u16
+    u16::from_le_bytes(array_at(octets, 2 * n))
 }
 
 // The first N words of octets.
@@ -77,16 +76,6 @@ pub(crate) fn stir(key: &[u8; 16], words: &mut [u16; 6])
     go_around(&[g, h, 0, 0, 0, 0], words, |word| word.rotate_right(1));
 }
 
-// Writes words into a memory at a place.
-fn put_words(memory: &mut [u8], at: usize, words: &[u16])
-    requires { at + 2 * length words.now ≤ length memory.old }
-    ensures { memory.new ≡ written at (octets_of words.now) memory.old }
-{
-    for (n, word) in words.iter().enumerate() {
-        little::put_number::<2>(memory, at + 2 * n, u64::from(*word));
-    }
-}
-
 // The first four octets of the key of RC4.
 fn front_octets(mixed: u16, lower: u16) -> [u8; 4]
     ensures { result ≡ front mixed lower }
@@ -106,6 +95,6 @@ pub(crate) fn seed(key: &[u8; 16], words: &[u16; 6], lower: u16) -> [u8; 16]
         0,
         &front_octets(words[5] ^ word_at(key, 0), lower),
     );
-    put_words(&mut octets, 4, words);
+    put(&mut octets, 4, words.map(u16::to_le_bytes).as_flattened());
     octets
 }

@@ -14,15 +14,17 @@ use crc32::check_octets;
 use frame::{Address, Heading};
 use octets::{array_at, fill, put, same};
 use rc4::Rc4;
-use suite::{Direction, HeadFault, OpenFault, Suite, key_id_in, key_id_octet};
+use suite::{Direction, HeadFault, LONGEST_PIECE, OpenFault, Suite, key_id_in, key_id_octet};
 
 #[derive(Clone, Copy)]
 pub struct Tkip;
 
 // A body has its head, a piece of 1 to 2,312 octets and its tail.
+// Kept: two constants for each suite: in the trait they would be functions, whose values the head of a suite would have to
+// look up.
 const SHORTEST_BODY: usize = Tkip::HEAD_LENGTH + 1 + Tkip::TAIL_LENGTH;
 
-const LONGEST_BODY: usize = Tkip::HEAD_LENGTH + 2312 + Tkip::TAIL_LENGTH;
+const LONGEST_BODY: usize = Tkip::HEAD_LENGTH + LONGEST_PIECE + Tkip::TAIL_LENGTH;
 
 fn head_octets(key_id: u8, counter: u64) -> [u8; 8]
     requires { key_id ≤ 3 }
