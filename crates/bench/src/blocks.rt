@@ -9,8 +9,7 @@ use aes::{Aes128, encrypt_once, load, store};
 pub extern "C" fn rattle_aes_block(key: &[u8; 16], block: &mut [u8; 16])
     ensures { block.new ≡ aes128 key.now block.old }
 {
-    let out = encrypt_once(key, block);
-    *block = out;
+    *block = encrypt_once(key, block);
 }
 
 // A block encrypted `n` times over, each result the next block: what a chained code does.

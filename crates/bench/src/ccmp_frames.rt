@@ -1,6 +1,7 @@
 // What bench/ccmp.c calls.
+use crate::opened;
 use ccmp::Ccmp;
-use suite::{HeadFault, OpenFault, Suite};
+use suite::{HeadFault, LONGEST_PIECE, OpenFault, PieceFault, Suite};
 
 // What open answers in place of a length.
 // Kept: C takes numbers for faults, and knows no Result.
@@ -26,13 +27,11 @@ pub extern "C" fn rattle_ccmp_seal(
     out: &mut [u8],
 ) -> u8 {
     let size = piece.len();
-    if key_id > 3 || counter > 281474976710655 {
-        return 1;
-    }
-    if size < 1 || size > 2312 {
-        return 1;
-    }
-    if out.len() < size + 16 {
+    if key_id > 3
+        || counter > Ccmp::TOP_COUNTER
+        || !(1..=LONGEST_PIECE).contains(&size)
+        || out.len() < Ccmp::HEAD_LENGTH + size + Ccmp::TAIL_LENGTH
+    {
         return 1;
     }
     Ccmp.seal(key, header, key_id, counter, piece, out);
@@ -50,13 +49,11 @@ pub extern "C" fn rattle_ccmp_open(
     if out.len() < body.len() {
         return NO_ROOM;
     }
-    match Ccmp.head(body) {
-        Ok(_) => match Ccmp.open(key, header, body, out) {
-            Ok(n) => n as u64,
-            Err(OpenFault::Long) => LONG,
-            Err(OpenFault::Unequal) => UNEQUAL,
-        },
-        Err(HeadFault::Short) => SHORT,
-        Err(HeadFault::Unmarked) => UNMARKED,
+    match opened(&Ccmp, key, header, body, out) {
+        Ok(size) => size as u64,
+        Err(PieceFault::Head(HeadFault::Short)) => SHORT,
+        Err(PieceFault::Head(HeadFault::Unmarked)) => UNMARKED,
+        Err(PieceFault::Open(OpenFault::Long)) => LONG,
+        Err(PieceFault::Open(OpenFault::Unequal)) => UNEQUAL,
     }
 }

@@ -3,6 +3,7 @@ ghost use Rattle.std.specs.Prelude.{◌≡◌, true, ◌+◌, ◌^◌, ◌<◌, 
 ghost use Rattle.octets.specs.Octets.{begins};
 ghost use Rattle.tkip.specs.Tkip.{tkip_seal};
 
+use crate::opened;
 use frame::{Address, Heading};
 use octets::put;
 use suite::Suite;
@@ -34,10 +35,7 @@ pub extern "C" fn rattle_tkip_open(key: &[u8], header: &[u8], body: &[u8], out: 
     requires header { length header.now ≡ 24 }
     requires room { length body.now ≤ 8 + length out.old + 4 }
 {
-    if Tkip.head(body).is_err() {
-        return 0;
-    }
-    Tkip.open(key, header, body, out).unwrap_or(0)
+    opened(&Tkip, key, header, body, out).unwrap_or(0)
 }
 
 // The code of a message from the base, whose addresses stand in a header.

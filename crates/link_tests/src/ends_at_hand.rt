@@ -1,24 +1,11 @@
-// Ends, addresses and keys that the tests share.
+// Ends, and what the tests ask of them.
 use ends::{Place, Refusal, Request, Role, Span};
-use frame::Address;
 use link::LinkEnd;
+use stations::{BASE, LOGGER};
 use suite::Suite;
 
-pub const BASE: Address = Address {
-    octets: [0x02, 0x10, 0x20, 0x30, 0x40, 0x50],
-};
-
-pub const LOGGER: Address = Address {
-    octets: [0x02, 0, 0, 0, 0, 0x07],
-};
-
-pub const GROUP: Address = Address {
-    octets: [0x03, 0, 0x5e, 0, 0, 0x01],
-};
-
-pub const TKIP_KEY: &[u8; 32] = b"temporal key 16.fr.base.fr.loggr";
-
-pub const CCMP_KEY: &[u8; 16] = b"temporal key 16.";
+// As long as a CCMP key is: the first sixteen octets of TKIP_KEY.
+pub const CCMP_KEY: [u8; 16] = *b"temporal key 16.";
 
 pub const PAIRWISE: Place = Place::Pairwise(0);
 
@@ -50,7 +37,8 @@ pub fn request(piece_length: usize, time: u64) -> Request {
     }
 }
 
-// An answer with a refusal by its number: the tests hold the numbers that docs/REFUSALS.md promises.
+// An answer with a refusal by its number.
+// Kept: the tests keep their values, which are the numbers that docs/REFUSALS.md promises.
 pub fn numbered<T: Drop>(answer: Result<T, Refusal>) -> Result<T, u8> {
     answer.map_err(|refusal| refusal.number())
 }

@@ -1,11 +1,10 @@
 // Sends that just fit, and sends that are one too many.
-use crate::ends_at_hand::{
-    BASE, CCMP_KEY, GROUP, LOGGER, NO_SPAN, PAIRWISE, TKIP_KEY, logger, numbered, request,
-};
+use crate::ends_at_hand::{CCMP_KEY, NO_SPAN, PAIRWISE, logger, numbered, request};
 use ccmp::Ccmp;
 use ends::{Place, Refusal, Request, Role, Span};
 use frame::Header;
 use link::LinkEnd;
+use stations::{BASE, GROUP, LOGGER, TKIP_KEY};
 use std::test::Fail;
 use suite::Suite;
 use suite_tests::plain::Plain;
@@ -33,7 +32,7 @@ fn send_zeros<P: Suite, G: Suite>(
 
 #[test]
 fn messages_of_1_to_2304(rt: HostRuntime) -> Result<(), Fail> {
-    let mut end = logger(Tkip, Tkip, TKIP_KEY)?;
+    let mut end = logger(Tkip, Tkip, &TKIP_KEY)?;
     assert_eq!(rt; numbered(send_zeros(&mut end, 0, 2312, 0)), Err(9));
     assert_eq!(rt; numbered(send_zeros(&mut end, 1, 2312, 0)), Ok(1));
     assert_eq!(rt; numbered(send_zeros(&mut end, 2304, 2312, 0)), Ok(1));
@@ -44,14 +43,14 @@ fn messages_of_1_to_2304(rt: HostRuntime) -> Result<(), Fail> {
 
 #[test]
 fn sixteen_pieces_and_seventeen(rt: HostRuntime) -> Result<(), Fail> {
-    let mut end = logger(Tkip, Tkip, TKIP_KEY)?;
+    let mut end = logger(Tkip, Tkip, &TKIP_KEY)?;
     assert_eq!(rt; numbered(send_zeros(&mut end, 1016, 64, 0)), Ok(16));
     assert_eq!(rt; numbered(send_zeros(&mut end, 1017, 64, 0)), Err(10));
     assert_eq!(rt; numbered(send_zeros(&mut end, 100, 62, 0)), Err(10));
     assert_eq!(rt; numbered(send_zeros(&mut end, 100, 65, 0)), Err(10));
     assert_eq!(rt; numbered(send_zeros(&mut end, 100, 2314, 0)), Err(10));
     // without a code, 1,024 octets make sixteen pieces
-    let mut newer = logger(Ccmp, Tkip, CCMP_KEY)?;
+    let mut newer = logger(Ccmp, Tkip, &CCMP_KEY)?;
     assert_eq!(rt; numbered(send_zeros(&mut newer, 1024, 64, 0)), Ok(16));
     assert_eq!(rt; numbered(send_zeros(&mut newer, 1025, 64, 0)), Err(10));
     Ok(())
@@ -59,7 +58,7 @@ fn sixteen_pieces_and_seventeen(rt: HostRuntime) -> Result<(), Fail> {
 
 #[test]
 fn the_clock_up_to_2_62(rt: HostRuntime) -> Result<(), Fail> {
-    let mut end = logger(Tkip, Ccmp, TKIP_KEY)?;
+    let mut end = logger(Tkip, Ccmp, &TKIP_KEY)?;
     assert_eq!(rt; numbered(send_zeros(&mut end, 1, 64, 1 << 62)), Ok(1));
     assert_eq!(rt;
         numbered(send_zeros(&mut end, 1, 64, (1 << 62) + 1)),
@@ -81,32 +80,32 @@ fn counters_left_exactly_enough(rt: HostRuntime) -> Result<(), Fail> {
     Ok(())
 }
 
-// 100 octets under TKIP at 64 take frames of 100 and 80: sent into these memories, by number.
+// 100 octets under TKIP at 64 take frames of 100 and 80: sent into these memories.
 fn send_hundred(
     frames: &mut [u8],
     index: &mut [Span],
     working: &mut [u8],
-) -> Result<Result<usize, u8>, Refusal> {
-    let mut end = logger(Tkip, Tkip, TKIP_KEY)?;
-    Ok(numbered(end.send(&request(64, 0), &[7; 100], frames, index, working)))
+) -> Result<usize, Refusal> {
+    let mut end = logger(Tkip, Tkip, &TKIP_KEY)?;
+    end.send(&request(64, 0), &[7; 100], frames, index, working)
 }
 
 #[test]
 fn memories_that_just_fit(rt: HostRuntime) -> Result<(), Fail> {
     assert_eq!(rt;
-        send_hundred(&mut [0; 180], &mut [NO_SPAN; 2], &mut [0; 2560])?,
+        numbered(send_hundred(&mut [0; 180], &mut [NO_SPAN; 2], &mut [0; 2560])),
         Ok(2)
     );
     assert_eq!(rt;
-        send_hundred(&mut [0; 179], &mut [NO_SPAN; 2], &mut [0; 2560])?,
+        numbered(send_hundred(&mut [0; 179], &mut [NO_SPAN; 2], &mut [0; 2560])),
         Err(12)
     );
     assert_eq!(rt;
-        send_hundred(&mut [0; 180], &mut [NO_SPAN; 1], &mut [0; 2560])?,
+        numbered(send_hundred(&mut [0; 180], &mut [NO_SPAN; 1], &mut [0; 2560])),
         Err(12)
     );
     assert_eq!(rt;
-        send_hundred(&mut [0; 180], &mut [NO_SPAN; 2], &mut [0; 2559])?,
+        numbered(send_hundred(&mut [0; 180], &mut [NO_SPAN; 2], &mut [0; 2559])),
         Err(12)
     );
     Ok(())
@@ -118,7 +117,7 @@ fn a_refused_send_wipes_working_memory_only(rt: HostRuntime) -> Result<(), Fail>
     let mut index = [NO_SPAN; 2];
     let mut working = [0xee; 2560];
     assert_eq!(rt;
-        send_hundred(&mut frames, &mut index, &mut working)?,
+        numbered(send_hundred(&mut frames, &mut index, &mut working)),
         Err(12)
     );
     assert_eq!(rt; frames, [0xee; 179]);
@@ -128,7 +127,7 @@ fn a_refused_send_wipes_working_memory_only(rt: HostRuntime) -> Result<(), Fail>
 
 #[test]
 fn the_rest_of_the_memories_stays(rt: HostRuntime) -> Result<(), Fail> {
-    let mut end = logger(Ccmp, Ccmp, CCMP_KEY)?;
+    let mut end = logger(Ccmp, Ccmp, &CCMP_KEY)?;
     let mut frames = [0xee; 200];
     let mut index = [NO_SPAN; 3];
     let mut working = [0xee; 2600];
@@ -165,7 +164,7 @@ fn the_rest_of_the_memories_stays(rt: HostRuntime) -> Result<(), Fail> {
 // What is in the frames: two messages, the counters going on and the sequence number one higher.
 #[test]
 fn frames_in_the_air(rt: HostRuntime) -> Result<(), Fail> {
-    let mut end = logger(Tkip, Tkip, TKIP_KEY)?;
+    let mut end = logger(Tkip, Tkip, &TKIP_KEY)?;
     let mut frames = [0u8; 180];
     let mut index = [NO_SPAN; 2];
     let mut working = [0u8; 2560];
@@ -184,7 +183,7 @@ fn frames_in_the_air(rt: HostRuntime) -> Result<(), Fail> {
     assert_eq!(rt; Tkip.head(&frames[124..180]), Ok((4, 0)));
     let mut piece = [0u8; 44];
     assert_eq!(rt;
-        Tkip.open(TKIP_KEY, &frames[100..124], &frames[124..180], &mut piece),
+        Tkip.open(&TKIP_KEY, &frames[100..124], &frames[124..180], &mut piece),
         Ok(44)
     );
     assert_eq!(rt; &piece[0..36], [8; 36].as_slice());
@@ -195,8 +194,8 @@ fn frames_in_the_air(rt: HostRuntime) -> Result<(), Fail> {
 fn where_a_base_sends(rt: HostRuntime) -> Result<(), Fail> {
     let mut base = LinkEnd::blank(Tkip, Ccmp);
     base.make(Role::Base, &BASE)?;
-    base.install(PAIRWISE, TKIP_KEY, &LOGGER, 0, 0)?;
-    base.install(Place::Group(2), CCMP_KEY, &BASE, 0, 0)?;
+    base.install(PAIRWISE, &TKIP_KEY, &LOGGER, 0, 0)?;
+    base.install(Place::Group(2), &CCMP_KEY, &BASE, 0, 0)?;
     let mut frames = [0u8; 100];
     let mut index = [NO_SPAN; 1];
     let mut working = [0u8; 2560];
@@ -240,8 +239,8 @@ fn where_a_base_sends(rt: HostRuntime) -> Result<(), Fail> {
 
 #[test]
 fn where_a_logger_cannot_send(rt: HostRuntime) -> Result<(), Fail> {
-    let mut end = logger(Ccmp, Tkip, CCMP_KEY)?;
-    end.install(Place::Group(1), TKIP_KEY, &BASE, 0, 0)?;
+    let mut end = logger(Ccmp, Tkip, &CCMP_KEY)?;
+    end.install(Place::Group(1), &TKIP_KEY, &BASE, 0, 0)?;
     let mut frames = [0u8; 100];
     let mut index = [NO_SPAN; 1];
     let mut working = [0u8; 2560];

@@ -26,12 +26,9 @@ impl Air {
         }
     }
 
-    // Frame n of the message in the air, or nothing.
-    pub fn frame(&self, n: usize) -> &[u8] {
-        match self.index.get(n) {
-            Some(span) => span.cut(&self.frames).unwrap_or(&[]),
-            None => &[],
-        }
+    // Frame n of the message in the air.
+    pub fn frame(&self, n: usize) -> Option<&[u8]> {
+        self.index.get(n)?.cut(&self.frames)
     }
 }
 

@@ -1,5 +1,5 @@
 // What else may come to an end: frames that nobody it knows has sent.
-use std::array;
+use octets::padded;
 
 // A frame as another station would have sent it: the last octet of Address 2 differs.
 pub fn from_a_stranger(frame: &[u8]) -> [u8; 100] {
@@ -17,5 +17,5 @@ pub fn with_a_bit_changed(frame: &[u8]) -> [u8; 100] {
 
 // The first octets of a frame, and zeros beyond it.
 fn copied(frame: &[u8]) -> [u8; 100] {
-    array::from_fn(|at| frame.get(at).copied().unwrap_or(0))
+    padded(&frame[..frame.len().min(100)])
 }

@@ -1,10 +1,11 @@
 // A new spring: its logger and its base speak CCMP.
 use crate::air::{Air, send_and_tell};
-use crate::stations::{CCMP_KEY, EVERYONE, FAR_END, NEW_BASE, NEW_LOGGER, TKIP_KEY, request};
+use crate::stations::{EVERYONE, FAR_END, NEW_BASE, NEW_LOGGER, request};
 use crate::telling::tell_granted;
 use ccmp::Ccmp;
 use ends::Role;
 use link::LinkEnd;
+use stations::{CCMP_KEY, TKIP_KEY};
 use tkip::Tkip;
 
 const READING: &[u8; 28] = b"spring 19: 11.2 l/s, 7.4 C..";
@@ -20,12 +21,12 @@ fn newer_reading_goes_out(rt: &HostRuntime, air: &mut Air) -> anyhow::Result<()>
     tell_granted(
         rt,
         "Its base's key is installed, under CCMP.",
-        logger.install(FAR_END, CCMP_KEY, &NEW_BASE, 0, 0),
+        logger.install(FAR_END, &CCMP_KEY, &NEW_BASE, 0, 0),
     )?;
     tell_granted(
         rt,
         "Its group's key is installed, under TKIP.",
-        logger.install(EVERYONE, TKIP_KEY, &NEW_BASE, 0, 0),
+        logger.install(EVERYONE, &TKIP_KEY, &NEW_BASE, 0, 0),
     )?;
     let to_base = request(FAR_END, NEW_LOGGER, NEW_BASE, 3_000);
     send_and_tell(rt, &mut logger, &Ccmp, &to_base, READING, air)?;
@@ -45,13 +46,14 @@ fn relay_is_taken_down(rt: &HostRuntime, air: &mut Air) -> anyhow::Result<()> {
     tell_granted(
         rt,
         "The logger's key is installed.",
-        relay.install(FAR_END, CCMP_KEY, &NEW_LOGGER, 0, 0),
+        relay.install(FAR_END, &CCMP_KEY, &NEW_LOGGER, 0, 0),
     )?;
     tell_granted(rt, "It is taken down again.", relay.remove(FAR_END))?;
     let to_logger = request(FAR_END, NEW_BASE, NEW_LOGGER, 4_000);
     send_and_tell(rt, &mut relay, &Ccmp, &to_logger, b"anyone there?", air)
 }
 
+// Kept: no plainer as one function with `old_spring` over two closures: two of the four lines are the calls.
 pub fn new_spring(rt: &HostRuntime) -> anyhow::Result<()> {
     let mut air = Air::still();
     newer_reading_goes_out(rt, &mut air)?;

@@ -1,10 +1,11 @@
 // An old spring: its logger and its base speak TKIP.
 use crate::air::{Air, send_and_tell};
-use crate::stations::{BASE, CCMP_KEY, EVERYONE, FAR_END, GROUP, LOGGER, TKIP_KEY, request};
+use crate::stations::{EVERYONE, FAR_END, request};
 use crate::telling::tell_granted;
 use ccmp::Ccmp;
 use ends::Role;
 use link::LinkEnd;
+use stations::{BASE, CCMP_KEY, GROUP, LOGGER, TKIP_KEY};
 use tkip::Tkip;
 
 const READING: &[u8; 70] =
@@ -21,7 +22,7 @@ fn reading_goes_out(rt: &HostRuntime, air: &mut Air) -> anyhow::Result<()> {
     tell_granted(
         rt,
         "Its base's key is installed, under TKIP.",
-        logger.install(FAR_END, TKIP_KEY, &BASE, 0, 0),
+        logger.install(FAR_END, &TKIP_KEY, &BASE, 0, 0),
     )?;
     let to_base = request(FAR_END, LOGGER, BASE, 1_000);
     send_and_tell(rt, &mut logger, &Tkip, &to_base, READING, air)
@@ -38,7 +39,7 @@ fn word_to_all(rt: &HostRuntime, air: &mut Air) -> anyhow::Result<()> {
     tell_granted(
         rt,
         "The group's key is installed.",
-        base.install(EVERYONE, CCMP_KEY, &BASE, 0, 0),
+        base.install(EVERYONE, &CCMP_KEY, &BASE, 0, 0),
     )?;
     let to_all = request(EVERYONE, BASE, GROUP, 2_000);
     send_and_tell(
@@ -51,6 +52,7 @@ fn word_to_all(rt: &HostRuntime, air: &mut Air) -> anyhow::Result<()> {
     )
 }
 
+// Kept: no plainer as one function with `new_spring` over two closures: two of the four lines are the calls.
 pub fn old_spring(rt: &HostRuntime) -> anyhow::Result<()> {
     let mut air = Air::still();
     reading_goes_out(rt, &mut air)?;

@@ -6,19 +6,12 @@ mod opening;
 mod sealing;
 mod telling;
 
-use frame::{Address, Header};
+use frame::Header;
 use newer::newer_story;
 use sealing::sealing_story;
 use shown::Hex;
+use stations::{BASE, LOGGER};
 use telling::{tell_header, tell_read};
-
-const BASE: Address = Address {
-    octets: [0x02, 0x10, 0x20, 0x30, 0x40, 0x50],
-};
-
-const LOGGER: Address = Address {
-    octets: [0x02, 0x00, 0x00, 0x00, 0x00, 0x07],
-};
 
 // The header of a whole message from the logger to the base.
 const WHOLE_MESSAGE: Header = Header {

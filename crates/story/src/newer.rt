@@ -3,10 +3,10 @@ use crate::opening::{Receiver, tell_opened};
 use crate::sealing::READING;
 use ccmp::Ccmp;
 use shown::{Hex, Text};
+use stations::CCMP_KEY;
 use suite::{PieceFault, Suite};
 
-const KEY: &[u8; 16] = b"ccmp key, 16 oct";
-
+// Kept: no plainer as one with sealing.rt's: what is told of a fault differs between the suites.
 fn words(fault: PieceFault) -> &'static str {
     match fault {
         PieceFault::Head(_) => "it is no sealed body",
@@ -16,11 +16,12 @@ fn words(fault: PieceFault) -> &'static str {
     }
 }
 
+// Kept: no plainer as one with sealing.rt's: what is told of a piece differs, and the rest is the call of `tell_opened`.
 fn tell_reading(rt: &HostRuntime, header: &[u8; 24], body: &[u8; 34]) -> anyhow::Result<()> {
     let mut piece = [0u8; 18];
     let receiver = Receiver {
         suite: &Ccmp,
-        key: KEY,
+        key: &CCMP_KEY,
         header,
     };
     match tell_opened(rt, receiver, body, &mut piece)? {
@@ -38,7 +39,7 @@ pub fn newer_story(rt: &HostRuntime, header: &[u8; 24]) -> anyhow::Result<()> {
         "A newer logger seals the same reading with CCMP:\n  head, reading under AES-128 in counter mode, tail:"
     )?;
     let mut body = [0u8; 34];
-    Ccmp.seal(KEY, header, 0, 1, READING, &mut body);
+    Ccmp.seal(&CCMP_KEY, header, 0, 1, READING, &mut body);
     println!(rt; " {}", Hex(&body))?;
     println!(rt; "The base opens it:")?;
     tell_reading(rt, header, &body)?;

@@ -1,16 +1,13 @@
 // A reading sealed by a logger and opened by its base, under TKIP.
 use crate::opening::{Receiver, tell_opened};
-use crate::{BASE, LOGGER};
 use frame::Heading;
 use octets::{put, same};
 use shown::{Hex, Text};
+use stations::{BASE, LOGGER, TKIP_KEY};
 use suite::{Direction, HeadFault, OpenFault, PieceFault, Suite};
 use tkip::Tkip;
 
 pub const READING: &[u8; 18] = b"spring 12: 4.7 l/s";
-
-// Temporal key, code key from the base, code key from the logger.
-const KEY: &[u8; 32] = b"temporal key 16.fr.base.fr.loggr";
 
 const HEADING: Heading = Heading {
     destination: BASE,
@@ -23,14 +20,14 @@ fn sealed_reading(header: &[u8; 24]) -> [u8; 38] {
     let mut piece = [0u8; 26];
     put(&mut piece, 0, READING);
     Tkip.code(
-        KEY,
+        &TKIP_KEY,
         Direction::FromLogger,
         &HEADING,
         READING,
         &mut piece[18..],
     );
     let mut body = [0u8; 38];
-    Tkip.seal(KEY, header, 0, 1, &piece, &mut body);
+    Tkip.seal(&TKIP_KEY, header, 0, 1, &piece, &mut body);
     body
 }
 
@@ -42,7 +39,7 @@ fn tell_message(rt: &HostRuntime, whole: &[u8]) -> anyhow::Result<()> {
     }
     let (message, given) = whole.split_at(whole.len() - 8);
     let mut code = [0u8; 8];
-    Tkip.code(KEY, Direction::FromLogger, &HEADING, message, &mut code);
+    Tkip.code(&TKIP_KEY, Direction::FromLogger, &HEADING, message, &mut code);
     if same(&code, given) {
         println!(rt; "  the code agrees, and the reading is: {}", Text(message))?;
     } else {
@@ -66,7 +63,7 @@ fn tell_reading(rt: &HostRuntime, header: &[u8; 24], body: &[u8; 38]) -> anyhow:
     let mut piece = [0u8; 26];
     let receiver = Receiver {
         suite: &Tkip,
-        key: KEY,
+        key: &TKIP_KEY,
         header,
     };
     match tell_opened(rt, receiver, body, &mut piece)? {

@@ -21,7 +21,6 @@ pub fn piece_length<S: Suite>(
     ensures answer { result ≡ piece_length (S.Suite.means.head body.now) (S.Suite.means.opens key.now header.now body.now) }
 {
     let guard = Wipe { octets: working };
-    let _ = suite.head(body)?;
-    let size = suite.open(key, header, body, &mut guard.octets[0..])?;
-    Ok(size)
+    suite.head(body)?;
+    Ok(suite.open(key, header, body, guard.octets)?)
 }

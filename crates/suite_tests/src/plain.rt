@@ -5,7 +5,7 @@ ghost use Rattle.std.proofs.Common.{rules};
 
 use frame::Heading;
 use octets::{fill, put};
-use suite::{Direction, HeadFault, OpenFault, Suite};
+use suite::{Direction, HeadFault, LONGEST_PIECE, OpenFault, Suite};
 
 #[derive(Clone, Copy)]
 pub struct Plain;
@@ -66,12 +66,12 @@ impl Suite for Plain {
         out: &mut [u8],
     ) {
         put(out, 0, &[counter as u8, key_id]);
-        put(out, 2, piece);
-        put(out, 2 + piece.len(), &[key[0]]);
+        put(out, Self::HEAD_LENGTH, piece);
+        put(out, Self::HEAD_LENGTH + piece.len(), &[key[0]]);
     }
 
     fn head(&self, body: &[u8]) -> Result<(u64, u8), HeadFault> {
-        if body.len() < 4 {
+        if body.len() < Self::HEAD_LENGTH + 1 + Self::TAIL_LENGTH {
             return Err(HeadFault::Short);
         }
         if body[1] >= 4 {
@@ -88,15 +88,15 @@ impl Suite for Plain {
         out: &mut [u8],
     ) -> Result<usize, OpenFault> {
         let size = body.len();
-        if size > 2315 {
+        if size > Self::HEAD_LENGTH + LONGEST_PIECE + Self::TAIL_LENGTH {
             return Err(OpenFault::Long);
         }
-        let inner = size - 3;
+        let inner = size - Self::HEAD_LENGTH - Self::TAIL_LENGTH;
         if body[size - 1] != key[0] {
-            fill(&mut out[0..inner], 0);
+            fill(&mut out[..inner], 0);
             return Err(OpenFault::Unequal);
         }
-        put(out, 0, &body[2..size - 1]);
+        put(out, 0, &body[Self::HEAD_LENGTH..size - Self::TAIL_LENGTH]);
         Ok(inner)
     }
 }

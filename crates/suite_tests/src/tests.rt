@@ -1,22 +1,11 @@
 // Examples worked by hand.
 use crate::opening::piece_length;
 use crate::plain::Plain;
-use frame::{Address, Header, HeaderFault};
+use frame::{Header, HeaderFault};
 use octets::{big, fill, little, same};
+use stations::{BASE, GROUP, LOGGER};
 use std::test::Fail;
 use suite::{HeadFault, OpenFault, PieceFault, Suite};
-
-const BASE: Address = Address {
-    octets: [0x02, 0x10, 0x20, 0x30, 0x40, 0x50],
-};
-
-const LOGGER: Address = Address {
-    octets: [0x02, 0x00, 0x00, 0x00, 0x00, 0x07],
-};
-
-const GROUP: Address = Address {
-    octets: [0x03, 0x00, 0x5e, 0x00, 0x00, 0x01],
-};
 
 // A logger's second fragment of three, of message 291, protected.
 const SECOND: Header = Header {
@@ -62,9 +51,9 @@ fn header_is_read(rt: HostRuntime) -> Result<(), Fail> {
     assert!(rt; header.address3.is_group() && !header.address1.is_group());
     assert_eq!(rt; header.sequence, 291);
     assert_eq!(rt; header.fragment, 1);
-    assert!(rt; matches!(Header::read(&frame[0..23]), Err(HeaderFault::Short)));
+    assert_eq!(rt; Header::read(&frame[0..23]), Err(HeaderFault::Short));
     frame[0] = 0x88;
-    assert!(rt; matches!(Header::read(&frame), Err(HeaderFault::NotData)));
+    assert_eq!(rt; Header::read(&frame), Err(HeaderFault::NotData));
     Ok(())
 }
 
@@ -72,11 +61,11 @@ fn header_is_read(rt: HostRuntime) -> Result<(), Fail> {
 fn numbers_in_octets(rt: HostRuntime) {
     let mut memory = [0xee; 8];
     little::put_number::<6>(&mut memory, 1, 0x0102_0304_0506);
-    assert!(rt; same(&memory, &[0xee, 6, 5, 4, 3, 2, 1, 0xee]));
+    assert_eq!(rt; memory, [0xee, 6, 5, 4, 3, 2, 1, 0xee]);
     assert_eq!(rt; little::number_at::<6>(&memory, 1), 0x0102_0304_0506);
     assert_eq!(rt; big::number_at::<2>(&memory, 5), 0x0201);
     big::put_number::<4>(&mut memory, 0, 0xa1a2_a3a4);
-    assert!(rt; same(&memory, &[0xa1, 0xa2, 0xa3, 0xa4, 3, 2, 1, 0xee]));
+    assert_eq!(rt; memory, [0xa1, 0xa2, 0xa3, 0xa4, 3, 2, 1, 0xee]);
     assert_eq!(rt; little::number_at::<4>(&memory, 0), 0xa4a3_a2a1);
 }
 
@@ -86,35 +75,29 @@ const KEY: [u8; 4] = [9, 8, 7, 6];
 fn plain_body_by_hand(rt: HostRuntime) {
     let mut body = [0xee; 8];
     Plain.seal(&KEY, &SECOND_OCTETS, 2, 77, b"abc", &mut body);
-    assert!(rt; same(&body, &[77, 2, b'a', b'b', b'c', 9, 0xee, 0xee]));
-    assert!(rt; matches!(Plain.head(&body[0..6]), Ok((77, 2))));
+    assert_eq!(rt; body, [77, 2, b'a', b'b', b'c', 9, 0xee, 0xee]);
+    assert_eq!(rt; Plain.head(&body[0..6]), Ok((77, 2)));
 }
 
 #[test]
 fn faults_pass_up_and_memory_is_wiped(rt: HostRuntime) {
     let body = [77, 2, b'a', b'b', b'c', 9];
     let mut working = [0xee; 10];
-    assert!(rt;
-        matches!(
-            piece_length(&Plain, &KEY, &SECOND_OCTETS, &body, &mut working),
-            Ok(3)
-        )
+    assert_eq!(rt;
+        piece_length(&Plain, &KEY, &SECOND_OCTETS, &body, &mut working),
+        Ok(3)
     );
-    assert!(rt; same(&working, &[0; 10]));
+    assert_eq!(rt; working, [0; 10]);
     fill(&mut working, 0xee);
-    assert!(rt;
-        matches!(
-            piece_length(&Plain, &KEY, &SECOND_OCTETS, &body[0..5], &mut working),
-            Err(PieceFault::Open(OpenFault::Unequal))
-        )
+    assert_eq!(rt;
+        piece_length(&Plain, &KEY, &SECOND_OCTETS, &body[0..5], &mut working),
+        Err(PieceFault::Open(OpenFault::Unequal))
     );
-    assert!(rt; same(&working, &[0; 10]));
+    assert_eq!(rt; working, [0; 10]);
     fill(&mut working, 0xee);
-    assert!(rt;
-        matches!(
-            piece_length(&Plain, &KEY, &SECOND_OCTETS, &body[0..3], &mut working),
-            Err(PieceFault::Head(HeadFault::Short))
-        )
+    assert_eq!(rt;
+        piece_length(&Plain, &KEY, &SECOND_OCTETS, &body[0..3], &mut working),
+        Err(PieceFault::Head(HeadFault::Short))
     );
-    assert!(rt; same(&working, &[0; 10]));
+    assert_eq!(rt; working, [0; 10]);
 }

@@ -3,7 +3,6 @@ use crate::tell;
 use aes::{Aes128, encrypt_once, load, store};
 use std::io;
 
-#[derive(Clone, Copy)]
 struct Encryption {
     name: &'static str,
     key: u128,
@@ -26,7 +25,6 @@ const ENCRYPTIONS: [Encryption; 2] = [
     },
 ];
 
-#[derive(Clone, Copy)]
 struct RoundKey {
     name: &'static str,
     key: u128,
@@ -50,7 +48,7 @@ const ROUND_KEYS: [RoundKey; 2] = [
 ];
 
 // The block is encrypted by its octets, by words, and beside another block.
-fn encrypts(case: Encryption) -> bool {
+fn encrypts(case: &Encryption) -> bool {
     let key = case.key.to_be_bytes();
     let block = case.block.to_be_bytes();
     let cipher = Aes128::expand(&key);
@@ -64,7 +62,7 @@ fn encrypts(case: Encryption) -> bool {
         && u128::from_be_bytes(store(beside)) == case.encrypted
 }
 
-fn expands(case: RoundKey) -> bool {
+fn expands(case: &RoundKey) -> bool {
     if case.number > 10 {
         return false;
     }
@@ -72,11 +70,12 @@ fn expands(case: RoundKey) -> bool {
     u128::from_be_bytes(cipher.round_key(case.number)) == case.octets
 }
 
+// Kept: no plainer by a helper: each list has its own test, and some of them may run out of memory.
 pub fn run(rt: &HostRuntime) -> io::Result<()> {
-    for case in ENCRYPTIONS {
+    for case in &ENCRYPTIONS {
         tell(rt, case.name, encrypts(case))?;
     }
-    for case in ROUND_KEYS {
+    for case in &ROUND_KEYS {
         tell(rt, case.name, expands(case))?;
     }
     Ok(())

@@ -83,10 +83,13 @@ const PACKETS: [Packet; 6] = [
 
 // Sealed as published, and opened again.
 fn seals_packet(packet: &Packet, alloc: Global) -> Result<bool, AllocError> {
-    let nonce = packet.nonce;
-    let additional = packet.additional;
-    let message = packet.message;
-    let sealed = packet.sealed;
+    let Packet {
+        nonce,
+        additional,
+        message,
+        sealed,
+        ..
+    } = *packet;
     let size = message.len();
     if additional.len() > 30 || size >= 65536 || sealed.len() != size + 8 {
         return Ok(false);

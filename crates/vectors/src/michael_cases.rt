@@ -118,7 +118,7 @@ fn repeated(from: State, times: u32) -> State
     ensures { result ≡ repeated times from }
 {
     let mut state = from;
-    for _turn in 0..times {
+    for _ in 0..times {
         state = state.block();
     }
     state

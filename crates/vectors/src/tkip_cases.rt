@@ -2,7 +2,6 @@
 use crate::sealings::Sealing;
 use crate::tell;
 use frame::{Address, Heading};
-use octets::same;
 use std::io;
 use suite::{Direction, Suite};
 use tkip::Tkip;
@@ -39,7 +38,7 @@ fn codes() -> bool {
     };
     let (message, given) = PIECE.split_at(92);
     Tkip.code(KEY, Direction::FromBase, &heading, message, &mut code);
-    same(&code, given)
+    code.as_slice() == given
 }
 
 pub fn run(rt: &HostRuntime) -> io::Result<()> {
