@@ -1,5 +1,5 @@
 // Ends, and what the tests ask of them.
-use ends::{Place, Refusal, Request, Role, Span};
+use ends::{Place, Refusal, Request, Role};
 use link::LinkEnd;
 use stations::{BASE, LOGGER};
 use suite::Suite;
@@ -8,11 +8,6 @@ use suite::Suite;
 pub const CCMP_KEY: [u8; 16] = *b"temporal key 16.";
 
 pub const PAIRWISE: Place = Place::Pairwise(0);
-
-pub const NO_SPAN: Span = Span {
-    offset: 0,
-    length: 0,
-};
 
 // A logger with its base in pairwise place 0, under this key.
 pub fn logger<P: Suite + Drop, G: Suite + Drop>(

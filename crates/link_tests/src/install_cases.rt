@@ -54,7 +54,10 @@ fn each_ground_of_install(rt: HostRuntime) -> Result<(), Fail> {
         numbered(end.install(place, &TKIP_KEY, &BASE, TOP, 1 << 62)),
         Ok(())
     );
-    assert_eq!(rt; numbered(end.install(place, &TKIP_KEY, &BASE, 0, 0)), Err(7));
+    assert_eq!(rt;
+        numbered(end.install(place, &TKIP_KEY, &BASE, 0, 0)),
+        Err(7)
+    );
     assert_eq!(rt;
         numbered(end.install(Place::Pairwise(0), &TKIP_KEY, &BASE, 0, 0)),
         Err(7)
@@ -102,6 +105,9 @@ fn a_removed_place_is_empty(rt: HostRuntime) -> Result<(), Fail> {
     end.install(place, &CCMP_KEY, &BASE, 0, 0)?;
     assert_eq!(rt; numbered(end.remove(place)), Ok(()));
     assert_eq!(rt; numbered(end.remove(place)), Err(8));
-    assert_eq!(rt; numbered(end.install(place, &CCMP_KEY, &BASE, 0, 0)), Ok(()));
+    assert_eq!(rt;
+        numbered(end.install(place, &CCMP_KEY, &BASE, 0, 0)),
+        Ok(())
+    );
     Ok(())
 }

@@ -1,5 +1,5 @@
 // Sends that just fit, and sends that are one too many.
-use crate::ends_at_hand::{CCMP_KEY, NO_SPAN, PAIRWISE, logger, numbered, request};
+use crate::ends_at_hand::{CCMP_KEY, PAIRWISE, logger, numbered, request};
 use ccmp::Ccmp;
 use ends::{Place, Refusal, Request, Role, Span};
 use frame::Header;
@@ -19,7 +19,7 @@ fn send_zeros<P: Suite, G: Suite>(
 ) -> Result<usize, Refusal> {
     let message = [0u8; 2305];
     let mut frames = [0u8; 4096];
-    let mut index = [NO_SPAN; 16];
+    let mut index = [Span::NOWHERE; 16];
     let mut working = [0u8; 2560];
     end.send(
         &request(piece_length, time),
@@ -93,19 +93,19 @@ fn send_hundred(
 #[test]
 fn memories_that_just_fit(rt: HostRuntime) -> Result<(), Fail> {
     assert_eq!(rt;
-        numbered(send_hundred(&mut [0; 180], &mut [NO_SPAN; 2], &mut [0; 2560])),
+        numbered(send_hundred(&mut [0; 180], &mut [Span::NOWHERE; 2], &mut [0; 2560])),
         Ok(2)
     );
     assert_eq!(rt;
-        numbered(send_hundred(&mut [0; 179], &mut [NO_SPAN; 2], &mut [0; 2560])),
+        numbered(send_hundred(&mut [0; 179], &mut [Span::NOWHERE; 2], &mut [0; 2560])),
         Err(12)
     );
     assert_eq!(rt;
-        numbered(send_hundred(&mut [0; 180], &mut [NO_SPAN; 1], &mut [0; 2560])),
+        numbered(send_hundred(&mut [0; 180], &mut [Span::NOWHERE; 1], &mut [0; 2560])),
         Err(12)
     );
     assert_eq!(rt;
-        numbered(send_hundred(&mut [0; 180], &mut [NO_SPAN; 2], &mut [0; 2559])),
+        numbered(send_hundred(&mut [0; 180], &mut [Span::NOWHERE; 2], &mut [0; 2559])),
         Err(12)
     );
     Ok(())
@@ -114,7 +114,7 @@ fn memories_that_just_fit(rt: HostRuntime) -> Result<(), Fail> {
 #[test]
 fn a_refused_send_wipes_working_memory_only(rt: HostRuntime) -> Result<(), Fail> {
     let mut frames = [0xee; 179];
-    let mut index = [NO_SPAN; 2];
+    let mut index = [Span::NOWHERE; 2];
     let mut working = [0xee; 2560];
     assert_eq!(rt;
         numbered(send_hundred(&mut frames, &mut index, &mut working)),
@@ -129,7 +129,7 @@ fn a_refused_send_wipes_working_memory_only(rt: HostRuntime) -> Result<(), Fail>
 fn the_rest_of_the_memories_stays(rt: HostRuntime) -> Result<(), Fail> {
     let mut end = logger(Ccmp, Ccmp, &CCMP_KEY)?;
     let mut frames = [0xee; 200];
-    let mut index = [NO_SPAN; 3];
+    let mut index = [Span::NOWHERE; 3];
     let mut working = [0xee; 2600];
     assert_eq!(rt;
         numbered(end.send(
@@ -157,7 +157,7 @@ fn the_rest_of_the_memories_stays(rt: HostRuntime) -> Result<(), Fail> {
             length: 76,
         }
     );
-    assert_eq!(rt; index[2], NO_SPAN);
+    assert_eq!(rt; index[2], Span::NOWHERE);
     Ok(())
 }
 
@@ -166,7 +166,7 @@ fn the_rest_of_the_memories_stays(rt: HostRuntime) -> Result<(), Fail> {
 fn frames_in_the_air(rt: HostRuntime) -> Result<(), Fail> {
     let mut end = logger(Tkip, Tkip, &TKIP_KEY)?;
     let mut frames = [0u8; 180];
-    let mut index = [NO_SPAN; 2];
+    let mut index = [Span::NOWHERE; 2];
     let mut working = [0u8; 2560];
     let q = request(64, 0);
     end.send(&q, &[7; 100], &mut frames, &mut index, &mut working)?;
@@ -197,7 +197,7 @@ fn where_a_base_sends(rt: HostRuntime) -> Result<(), Fail> {
     base.install(PAIRWISE, &TKIP_KEY, &LOGGER, 0, 0)?;
     base.install(Place::Group(2), &CCMP_KEY, &BASE, 0, 0)?;
     let mut frames = [0u8; 100];
-    let mut index = [NO_SPAN; 1];
+    let mut index = [Span::NOWHERE; 1];
     let mut working = [0u8; 2560];
     let mut q = Request {
         place: Place::Group(2),
@@ -242,7 +242,7 @@ fn where_a_logger_cannot_send(rt: HostRuntime) -> Result<(), Fail> {
     let mut end = logger(Ccmp, Tkip, &CCMP_KEY)?;
     end.install(Place::Group(1), &TKIP_KEY, &BASE, 0, 0)?;
     let mut frames = [0u8; 100];
-    let mut index = [NO_SPAN; 1];
+    let mut index = [Span::NOWHERE; 1];
     let mut working = [0u8; 2560];
     let mut q = request(64, 0);
     q.place = Place::Group(1);

@@ -16,13 +16,9 @@ pub struct Air {
 
 impl Air {
     pub fn still() -> Air {
-        let nowhere = Span {
-            offset: 0,
-            length: 0,
-        };
         Air {
             frames: [0; 512],
-            index: [nowhere; 4],
+            index: [Span::NOWHERE; 4],
         }
     }
 

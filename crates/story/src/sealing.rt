@@ -39,7 +39,13 @@ fn tell_message(rt: &HostRuntime, whole: &[u8]) -> anyhow::Result<()> {
     }
     let (message, given) = whole.split_at(whole.len() - 8);
     let mut code = [0u8; 8];
-    Tkip.code(&TKIP_KEY, Direction::FromLogger, &HEADING, message, &mut code);
+    Tkip.code(
+        &TKIP_KEY,
+        Direction::FromLogger,
+        &HEADING,
+        message,
+        &mut code,
+    );
     if same(&code, given) {
         println!(rt; "  the code agrees, and the reading is: {}", Text(message))?;
     } else {
