@@ -5,7 +5,7 @@ mod air;
 mod forging;
 mod new_spring;
 mod old_spring;
-mod stations;
+mod parties;
 mod telling;
 
 use new_spring::new_spring;

@@ -1,6 +1,6 @@
 // A new spring: its logger and its base speak CCMP.
 use crate::air::{Air, send_and_tell};
-use crate::stations::{EVERYONE, FAR_END, NEW_BASE, NEW_LOGGER, request};
+use crate::parties::{EVERYONE, FAR_END, NEW_BASE, NEW_LOGGER, request};
 use crate::telling::tell_granted;
 use ccmp::Ccmp;
 use ends::Role;

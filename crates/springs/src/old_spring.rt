@@ -1,6 +1,6 @@
 // An old spring: its logger and its base speak TKIP.
 use crate::air::{Air, send_and_tell};
-use crate::stations::{EVERYONE, FAR_END, request};
+use crate::parties::{EVERYONE, FAR_END, request};
 use crate::telling::tell_granted;
 use ccmp::Ccmp;
 use ends::Role;
