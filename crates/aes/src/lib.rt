@@ -42,6 +42,7 @@ pub fn load(block: &[u8]) -> u128
 }
 
 // The sixteen octets of a block.
+// Kept: no From, beside `load`: both types are std's, and the words of a state lie between.
 pub fn store(block: u128) -> [u8; 16]
     ensures { result ≡ octets block }
 {

@@ -38,8 +38,8 @@ impl From<State> for u128 {
     }
 }
 
-// Kept: column by column, which holds the speed that docs/CIPHERS.md and docs/CCMP.md tell: by u128::to_le_bytes of the
-// whole word CCM seals 1,500 octets at 150 MB/s, and so at 158.
+// Kept: column by column: the bar is the speed that it had. By u128::to_le_bytes of the whole word CCM seals 1,500 octets at 150
+// MB/s, and so at 158.
 impl From<State> for [u8; 16] {
     ghost from_gives = { λ s r. r ≡ held s };
 
@@ -75,8 +75,8 @@ impl BitXor for State {
 impl State {
     // Adds what the octets of the column `w` of a state give, and moves the columns on by one. Of the orders of the four rows
     // this one is the fastest.
-    // Kept: octets by shifts, which hold the speed that docs/CIPHERS.md and docs/CCMP.md tell: by w.to_le_bytes() the last
-    // round has four more instructions, and CCM seals 1,500 octets at 157.6 MB/s, where so at 158.5.
+    // Kept: octets by shifts: the bar is the speed that it had. By w.to_le_bytes() the last round has four more instructions, and
+    // CCM seals 1,500 octets at 157.6 MB/s, and so at 158.5 (the best of six runs each, in turn).
     fn add<G: Giving>(self, w: u32) -> State
         ensures { Added G.gives self w result }
     {

@@ -22,6 +22,7 @@ pub enum Failure {
     CodeFailed,
 }
 
+// Kept: a derived `From` has no contract, and clauses name the failure that `?` makes (`from_gives`).
 impl From<Refusal> for Failure {
     ghost from_gives = { λ r f. f ≡ Refused r };
 
@@ -31,7 +32,8 @@ impl From<Refusal> for Failure {
 }
 
 // The direction from which an end of this role hears.
-// Kept: no plainer: a role stands for two directions, the one it sends in and the one it hears from: no `From` fits.
+// Kept: beside `direction` of sending, which has the two the other way round. One function of the role and of the way would be
+// no plainer: it would match on both, for one call of each kind.
 fn direction_to(role: Role) -> Direction
     ensures { result ≡ direction_to role }
 {

@@ -94,6 +94,7 @@ impl<'a> Mode<'a> {
         if size == 0 {
             return start;
         }
+        // Kept: no heap, fixed memory: a length of two octets and at most 30 behind it.
         let mut memory = [0u8; 32];
         big::put_number::<2>(&mut memory, 0, size as u64);
         put(&mut memory, 2, self.additional);

@@ -8,6 +8,7 @@ use frame::HeaderFault;
 use suite::{HeadFault, OpenFault};
 
 // One case for each ground, in the order of the checks. From `Replayed` on, the place and the fragment number.
+// Kept: these two one by one, as the definitions of the refusals have them: a struct would be taken apart again by each.
 #[derive(Clone, Copy, PartialEq, Eq, Debug)]
 pub enum Refusal {
     // 1: the time is above 2^62
@@ -97,6 +98,7 @@ impl Refusal {
 }
 
 // Faults of a frame's header and of a suite's head pass up by `?`.
+// Kept: a derived `From` has no contract, and clauses name the refusal that `?` makes (`from_gives`).
 impl From<HeaderFault> for Refusal {
     ghost from_gives = { λ e r. r ≡ header_refusal e };
 

@@ -64,6 +64,7 @@ impl Header {
     }
 
     // What the first octets of a frame say.
+    // Kept: no `TryFrom`, since a frame goes on behind its header, and only its beginning is read.
     pub fn read(frame: &[u8]) -> Result<Header, HeaderFault>
         ensures { result ≡ header_in frame.now }
     {

@@ -82,6 +82,7 @@ impl Keyed {
     }
 
     // Lets the stage go, with no code.
+    // Kept: beside that of the other stage. A trait of stages would be no plainer: each takes its own fields apart.
     pub fn give_up(self) {
         let Keyed { state: _ } = self;
     }

@@ -34,7 +34,8 @@ struct Addressing {
 }
 
 // The direction in which an end of this role sends.
-// Kept: a match in place of a `From`, which would hide that a role also hears, in the other direction.
+// Kept: beside `direction_to` of arriving, which has the two the other way round. One function of the role and of the way would
+// be no plainer: it would match on both, for one call of each kind. No `From`, which would hide that a role also hears.
 pub fn direction(role: Role) -> Direction
     ensures { result ≡ direction_from role }
 {

@@ -54,6 +54,7 @@ fn tell_message(rt: &HostRuntime, whole: &[u8]) -> anyhow::Result<()> {
     Ok(())
 }
 
+// Kept: no plainer as one with newer.rt's: what is told of a fault differs between the suites.
 fn words(fault: PieceFault) -> &'static str {
     match fault {
         PieceFault::Head(HeadFault::Short) => "too short for a body",
@@ -65,6 +66,7 @@ fn words(fault: PieceFault) -> &'static str {
     }
 }
 
+// Kept: no plainer as one with newer.rt's: what is told of a piece differs, and the rest is the call of `tell_opened`.
 fn tell_reading(rt: &HostRuntime, header: &[u8; 24], body: &[u8; 38]) -> anyhow::Result<()> {
     let mut piece = [0u8; 26];
     let receiver = Receiver {

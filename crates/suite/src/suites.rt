@@ -15,7 +15,7 @@ use crate::sizes::{Direction, Sizes};
 use frame::Heading;
 
 // Kept: each function asks for the key's length. A type of keys would be no plainer: an end holds 32 octets whatever its
-// suites are, and lends a part.
+// suites are, and lends a part. The header's too: an array of 24 would ask more of callers, who lend the start of a frame.
 pub trait Suite {
     const HEAD_LENGTH: usize;
 
