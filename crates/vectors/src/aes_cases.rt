@@ -70,7 +70,7 @@ fn expands(case: &RoundKey) -> bool {
     u128::from_be_bytes(cipher.round_key(case.number)) == case.octets
 }
 
-// Kept: no plainer by a helper: each list has its own test, and some of them may run out of memory.
+// Kept: no plainer by a helper: each list has its own test.
 pub fn run(rt: &HostRuntime) -> io::Result<()> {
     for case in &ENCRYPTIONS {
         tell(rt, case.name, encrypts(case))?;

@@ -2,7 +2,6 @@
 use crate::sealings::Sealing;
 use crate::tell;
 use ccmp::Ccmp;
-use std::alloc::{AllocError, Global};
 use std::io;
 
 const KEY: &[u8; 16] = b"\xc9\x7c\x1f\x67\xce\x37\x11\x85\x51\x4a\x8a\x19\xf2\xbd\xd5\x2f";
@@ -81,8 +80,11 @@ const PACKETS: [Packet; 6] = [
     },
 ];
 
+// Kept: fixed memory, in which each packet has room, so that no case can run out of it.
+const ROOM: usize = 64;
+
 // Sealed as published, and opened again.
-fn seals_packet(packet: &Packet, alloc: Global) -> Result<bool, AllocError> {
+fn seals_packet(packet: &Packet) -> bool {
     let Packet {
         nonce,
         additional,
@@ -91,25 +93,27 @@ fn seals_packet(packet: &Packet, alloc: Global) -> Result<bool, AllocError> {
         ..
     } = *packet;
     let size = message.len();
-    if additional.len() > 30 || size >= 65536 || sealed.len() != size + 8 {
-        return Ok(false);
+    if additional.len() > 30 || size + 8 > ROOM || sealed.len() != size + 8 {
+        return false;
     }
-    let mut made = vec![in alloc; 0u8; size + 8]?;
+    let mut made = [0u8; ROOM];
     ccm::seal(PACKET_KEY, nonce, additional, message, &mut made);
-    let mut opened = vec![in alloc; 0u8; size]?;
+    let mut opened = [0u8; ROOM];
     let answer = ccm::open(PACKET_KEY, nonce, additional, sealed, &mut opened);
-    Ok(answer.is_ok() && made.as_slice() == sealed && opened.as_slice() == message)
+    answer.is_ok() && &made[..size + 8] == sealed && &opened[..size] == message
 }
 
 pub fn run(rt: &HostRuntime) -> io::Result<()> {
-    let alloc = rt.alloc();
-    tell(rt, "CCMP frame sealed", FRAME.seals(alloc)?)?;
-    tell(rt, "CCMP frame opened", FRAME.opens(alloc)?)?;
+    tell(rt, "CCMP frame sealed", FRAME.seals())?;
+    tell(rt, "CCMP frame opened", FRAME.opens())?;
     // the last bit of the tail
-    let refused = FRAME.refuses(alloc, 35, 0x80)?;
-    tell(rt, "CCMP frame with a changed bit refused", refused)?;
+    tell(
+        rt,
+        "CCMP frame with a changed bit refused",
+        FRAME.refuses(35, 0x80),
+    )?;
     for packet in &PACKETS {
-        tell(rt, packet.name, seals_packet(packet, alloc)?)?;
+        tell(rt, packet.name, seals_packet(packet))?;
     }
     Ok(())
 }

@@ -42,11 +42,13 @@ fn codes() -> bool {
 }
 
 pub fn run(rt: &HostRuntime) -> io::Result<()> {
-    let alloc = rt.alloc();
-    tell(rt, "TKIP frame sealed", FRAME.seals(alloc)?)?;
-    tell(rt, "TKIP frame opened", FRAME.opens(alloc)?)?;
+    tell(rt, "TKIP frame sealed", FRAME.seals())?;
+    tell(rt, "TKIP frame opened", FRAME.opens())?;
     tell(rt, "TKIP frame's code", codes())?;
     // one bit of the sealed piece
-    let refused = FRAME.refuses(alloc, 50, 4)?;
-    tell(rt, "TKIP frame with a changed bit refused", refused)
+    tell(
+        rt,
+        "TKIP frame with a changed bit refused",
+        FRAME.refuses(50, 4),
+    )
 }
