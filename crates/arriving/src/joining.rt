@@ -8,7 +8,7 @@ ghost use Rattle.arriving.specs.Gathering.{Gives, gathered};
 use crate::incoming::{Hearing, Incoming};
 use crate::pieces::refusal_at;
 use ends::{Installation, Joined, LONGEST_MESSAGE, Partial, Refusal};
-use frame::Header;
+use frame::{Address, Header};
 use suite::Suite;
 
 // What was joined before a piece: nothing before fragment 0.
@@ -39,6 +39,20 @@ fn is_too_short(header: &Header, code: usize, size: usize) -> bool
     !header.more_fragments && size <= code
 }
 
+// A partial message of no octets.
+fn no_partial() -> Partial {
+    let nobody = Address { octets: [0; 6] };
+    Partial {
+        joined: Joined::from_slice(&[]),
+        fragment: 0,
+        counter: 0,
+        sequence: 0,
+        address1: nobody,
+        address2: nobody,
+        address3: nobody,
+    }
+}
+
 impl Incoming<'_> {
     // Joins the piece in working memory to what came before it, where their lengths allow it.
     fn assemble(
@@ -65,20 +79,20 @@ impl Incoming<'_> {
     }
 
     // Holds the pieces so far, in the place's own memory.
+    // Kept: a partial message that is there is written over, and not made anew: as many octets are copied as there are.
     pub(crate) fn hold(&self, installation: &mut Installation, whole: &[u8])
         requires { length whole.now ≤ 2312 }
         ensures { filling installation.new ≡ with_partial (filling installation.old) (Some (part_of self.now.header.now self.now.counter whole.now)) }
     {
         let header = self.header;
-        installation.partial = Some(Partial {
-            joined: Joined::from_slice(whole),
-            fragment: header.fragment,
-            counter: self.counter,
-            sequence: header.sequence,
-            address1: header.address1,
-            address2: header.address2,
-            address3: header.address3,
-        });
+        let partial = installation.partial.get_or_insert_with(no_partial);
+        partial.joined.replace(whole);
+        partial.fragment = header.fragment;
+        partial.counter = self.counter;
+        partial.sequence = header.sequence;
+        partial.address1 = header.address1;
+        partial.address2 = header.address2;
+        partial.address3 = header.address3;
     }
 }
 

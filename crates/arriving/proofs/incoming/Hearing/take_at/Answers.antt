@@ -1,6 +1,5 @@
-use Rattle.std.proofs.Common.{◌≡◌, ◌<◌, length, get_or, set, None, Option, sym, ap, ◌∙◌, rules}
+use Rattle.std.proofs.Common.{◌≡◌, get_or, set, None, Option, sym, ap, ◌∙◌, rules}
 use Rattle.std.proofs.lemmas.Bool.{cond-true}
-use Rattle.std.proofs.lemmas.List.{get_or_default}
 use Rattle.ends.specs.declared.refusals.Refusal.TheVariants.{NoMatch}
 use Rattle.ends.specs.Places.{exists, index_of}
 use Rattle.ends.specs.Holding.{Filling, held, filled, with_places}
@@ -21,8 +20,6 @@ returns g c = λ time.
     let at = c.index-index.result in
     let is : at ≡ index_of q = c.index-index.ensures.value in
     let verdict : Option Filling → Verdict = λ f. settled (then (or_refuse NoMatch f) (at_place g.S.Suite.means c.args.self.now.role q incoming.header.now incoming.frame.now incoming.counter time)) in
-    let there : at < length s.slots = search rules in
-    let x = c.index-state-index.result in
-    let was : filled (get_or s.slots at x) ≡ (held s).at q = ap filled (get_or_default s.slots at x None there) ∙ ap (λ n. filled (get_or s.slots n None)) is ∙ sym (cond-true (exists q) _ _ c.requires.exists) in
+    let was : filled (get_or s.slots at None) ≡ (held s).at q = ap (λ n. filled (get_or s.slots n None)) is ∙ sym (cond-true (exists q) _ _ c.requires.exists) in
     let left : held (record s { slots = set s.slots at slot }) ≡ with_places (held s) _ = ap (λ n. held (record s { slots = set s.slots n slot })) is ∙ ap (with_places (held s)) (stored s.slots q slot c.requires.exists (search rules)) in
-    took (held s) (held (record s { slots = set s.slots at slot })) q (filled (get_or s.slots at x)) (filled slot) verdict c.args.message.now step.new.message step.result was (step.ensures time) left
+    took (held s) (held (record s { slots = set s.slots at slot })) q (filled (get_or s.slots at None)) (filled slot) verdict c.args.message.now step.new.message step.result was (step.ensures time) left
