@@ -1,12 +1,12 @@
 // CCMP as a suite.
-ghost use Rattle.ccmp.specs.Ccmp.{ccmp_code, ccmp_seal, ccmp_head, ccmp_open, ccmp};
+ghost use Rattle.ccmp.specs.Ccmp.{ccmp_sizes, ccmp_code, ccmp_seal, ccmp_head, ccmp_open, ccmp};
 ghost use Rattle.ccmp.specs.Laws;
 ghost use Rattle.std.proofs.Common.{rules};
 
 use crate::fields;
 use frame::Heading;
 use octets::{array_at, put};
-use suite::{Direction, HeadFault, LONGEST_PIECE, OpenFault, Suite, key_id_in};
+use suite::{Direction, HeadFault, LONGEST_PIECE, OpenFault, Sizes, Suite, key_id_in};
 
 #[derive(Clone, Copy)]
 pub struct Ccmp;
@@ -21,23 +21,15 @@ const LONGEST_BODY: usize = Ccmp::HEAD_LENGTH + LONGEST_PIECE + Ccmp::TAIL_LENGT
 impl Suite for Ccmp {
     const HEAD_LENGTH: usize = 8;
 
-    ghost HEAD_LENGTH = { 8 };
-
     const TAIL_LENGTH: usize = 8;
-
-    ghost TAIL_LENGTH = { 8 };
 
     const CODE_LENGTH: usize = 0;
 
-    ghost CODE_LENGTH = { 0 };
-
     const KEY_LENGTH: usize = 16;
-
-    ghost KEY_LENGTH = { 16 };
 
     const TOP_COUNTER: u64 = 0xffff_ffff_ffff;
 
-    ghost TOP_COUNTER = { 0xFFFF_FFFF_FFFF };
+    ghost sizes = { ccmp_sizes };
 
     ghost code = { ccmp_code };
 
@@ -52,6 +44,16 @@ impl Suite for Ccmp {
     ghost built = { Prim.search rules };
 
     ghost keeps = { Laws.keeps };
+
+    fn sizes() -> Sizes {
+        Sizes {
+            head: Self::HEAD_LENGTH,
+            tail: Self::TAIL_LENGTH,
+            code: Self::CODE_LENGTH,
+            key: Self::KEY_LENGTH,
+            top: Self::TOP_COUNTER,
+        }
+    }
 
     // A message has no code: nothing is written.
     fn code(

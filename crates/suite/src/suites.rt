@@ -19,25 +19,17 @@ use frame::Heading;
 pub trait Suite {
     const HEAD_LENGTH: usize;
 
-    ghost HEAD_LENGTH: { ℕ };
-
     const TAIL_LENGTH: usize;
-
-    ghost TAIL_LENGTH: { ℕ };
 
     const CODE_LENGTH: usize;
 
-    ghost CODE_LENGTH: { ℕ };
-
     const KEY_LENGTH: usize;
-
-    ghost KEY_LENGTH: { ℕ };
 
     const TOP_COUNTER: u64;
 
-    ghost TOP_COUNTER: { ℕ };
+    // what the constants and the functions are
+    ghost sizes: { Sizes };
 
-    // what the functions are
     ghost code: { Octets → Direction → Address → Address → ℕ → Octets → Octets };
 
     ghost seal: { Octets → Octets → ℕ → ℕ → Octets → Octets };
@@ -50,17 +42,10 @@ pub trait Suite {
     ghost means: { Meaning };
 
     // The five constants as one value.
+    // Kept: each suite writes it. Written once, here, it would ask of every suite that its constants are these sizes, which
+    // a caller's own suite need not show: code over any suite reads its sizes here alone.
     fn sizes() -> Sizes
-        ensures { result ≡ means.sizes }
-    {
-        Sizes {
-            head: Self::HEAD_LENGTH,
-            tail: Self::TAIL_LENGTH,
-            code: Self::CODE_LENGTH,
-            key: Self::KEY_LENGTH,
-            top: Self::TOP_COUNTER,
-        }
-    }
+        ensures { result ≡ means.sizes };
 
     // Writes the code of a message to the start of a memory.
     fn code(
@@ -117,7 +102,7 @@ pub trait Suite {
         ensures says { Opens means.sizes body.now result }
         ensures memory { out.new ≡ left_by_open means.sizes body.now (means.opens key.now header.now body.now) out.old };
 
-    ghost built: { means ≡ meaning (record { head = HEAD_LENGTH; tail = TAIL_LENGTH; code = CODE_LENGTH; key = KEY_LENGTH; top = TOP_COUNTER }) code seal head «open» };
+    ghost built: { means ≡ meaning sizes code seal head «open» };
 
     ghost keeps: { Keeps means };
 }

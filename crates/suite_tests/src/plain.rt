@@ -1,11 +1,11 @@
 // A suite for tests, which hides nothing: it shows that the trait can be met.
-ghost use Rattle.suite_tests.specs.Plain.{plain_code, plain_seal, plain_head, plain_open, plain};
+ghost use Rattle.suite_tests.specs.Plain.{plain_sizes, plain_code, plain_seal, plain_head, plain_open, plain};
 ghost use Rattle.suite_tests.specs.Lawful;
 ghost use Rattle.std.proofs.Common.{rules};
 
 use frame::Heading;
 use octets::{fill, put};
-use suite::{Direction, HeadFault, LONGEST_PIECE, OpenFault, Suite};
+use suite::{Direction, HeadFault, LONGEST_PIECE, OpenFault, Sizes, Suite};
 
 #[derive(Clone, Copy)]
 pub struct Plain;
@@ -13,23 +13,15 @@ pub struct Plain;
 impl Suite for Plain {
     const HEAD_LENGTH: usize = 2;
 
-    ghost HEAD_LENGTH = { 2 };
-
     const TAIL_LENGTH: usize = 1;
-
-    ghost TAIL_LENGTH = { 1 };
 
     const CODE_LENGTH: usize = 1;
 
-    ghost CODE_LENGTH = { 1 };
-
     const KEY_LENGTH: usize = 4;
-
-    ghost KEY_LENGTH = { 4 };
 
     const TOP_COUNTER: u64 = 255;
 
-    ghost TOP_COUNTER = { 255 };
+    ghost sizes = { plain_sizes };
 
     ghost code = { plain_code };
 
@@ -44,6 +36,16 @@ impl Suite for Plain {
     ghost built = { Prim.search rules };
 
     ghost keeps = { Lawful.keeps };
+
+    fn sizes() -> Sizes {
+        Sizes {
+            head: Self::HEAD_LENGTH,
+            tail: Self::TAIL_LENGTH,
+            code: Self::CODE_LENGTH,
+            key: Self::KEY_LENGTH,
+            top: Self::TOP_COUNTER,
+        }
+    }
 
     fn code(
         &self,

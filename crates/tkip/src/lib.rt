@@ -6,7 +6,7 @@ ghost use Rattle.frame.specs.Addresses.{address_at};
 ghost use Rattle.frame.specs.Headers.{header_length};
 ghost use Rattle.rc4.specs.Rc4.{covered};
 ghost use Rattle.mixing.specs.Mixing.{rc4_key};
-ghost use Rattle.tkip.specs.Tkip.{head_octets, counter_in, code_key, tkip_code, tkip_seal, tkip_head, tkip_open, tkip};
+ghost use Rattle.tkip.specs.Tkip.{head_octets, counter_in, code_key, tkip_sizes, tkip_code, tkip_seal, tkip_head, tkip_open, tkip};
 ghost use Rattle.tkip.specs.Lawful;
 ghost use Rattle.std.proofs.Common.{rules};
 
@@ -14,7 +14,9 @@ use crc32::check_octets;
 use frame::{Address, Heading};
 use octets::{array_at, fill, put, same};
 use rc4::Rc4;
-use suite::{Direction, HeadFault, LONGEST_PIECE, OpenFault, Suite, key_id_in, key_id_octet};
+use suite::{
+    Direction, HeadFault, LONGEST_PIECE, OpenFault, Sizes, Suite, key_id_in, key_id_octet,
+};
 
 #[derive(Clone, Copy)]
 pub struct Tkip;
@@ -91,23 +93,15 @@ fn bare(frame_key: &[u8; 16], sealed: &[u8], piece: &mut [u8]) -> [u8; 4]
 impl Suite for Tkip {
     const HEAD_LENGTH: usize = 8;
 
-    ghost HEAD_LENGTH = { 8 };
-
     const TAIL_LENGTH: usize = 4;
-
-    ghost TAIL_LENGTH = { 4 };
 
     const CODE_LENGTH: usize = 8;
 
-    ghost CODE_LENGTH = { 8 };
-
     const KEY_LENGTH: usize = 32;
-
-    ghost KEY_LENGTH = { 32 };
 
     const TOP_COUNTER: u64 = 0xffff_ffff_ffff;
 
-    ghost TOP_COUNTER = { 0xFFFF_FFFF_FFFF };
+    ghost sizes = { tkip_sizes };
 
     ghost code = { tkip_code };
 
@@ -122,6 +116,16 @@ impl Suite for Tkip {
     ghost built = { Prim.search rules };
 
     ghost keeps = { Lawful.keeps };
+
+    fn sizes() -> Sizes {
+        Sizes {
+            head: Self::HEAD_LENGTH,
+            tail: Self::TAIL_LENGTH,
+            code: Self::CODE_LENGTH,
+            key: Self::KEY_LENGTH,
+            top: Self::TOP_COUNTER,
+        }
+    }
 
     fn code(
         &self,
