@@ -21,5 +21,5 @@ returns c =
           (c.put.ensures ∙ ap (λ h. written 0 h old) c.head_octets.ensures)
           c.put-2.ensures
           (c.put-3.ensures ∙ ap (λ t. written (8 + length piece) t c.put-2.new.memory) c.check_octets.ensures)
-          (c.cover.ensures.octets ∙ ap (λ k. covered k (take (8 + length piece + 4 - 8) (drop 8 c.put-3.new.memory))) c.frame_key.ensures);
+          (c.cover.ensures.octets ∙ ap (λ k. covered k (take (8 + length piece + 4 - 8) (drop 8 c.put-3.new.memory))) cc);
     }
